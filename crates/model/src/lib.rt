@@ -1,0 +1,55 @@
+// The answers and kinds that the definitions of `specs/` speak of. Each enum has a definition there that gives document 01's number for each case.
+
+// The kinds of word of document 01: the rule image's, then the shared memory's.
+pub enum Kind {
+    Header,
+    Predicate,
+    Clause,
+    Var,
+    Con,
+    Goal,
+    Node0,
+    Node1,
+    Node2,
+    Node3,
+    Value,
+}
+
+// What is wrong with an image or a query: faults 1 to 17, in their order.
+pub enum Fault {
+    EmptyImage,
+    WrongEdition,
+    NoPredicates,
+    ZeroField,
+    LengthField,
+    EndsEarly,
+    FirstClause,
+    ClauseExpected,
+    VariableCount,
+    GoalCount,
+    ArgumentExpected,
+    VariableNumber,
+    GoalExpected,
+    NoSuchPredicate,
+    UnusedVariable,
+    ClauseLength,
+    LeftOver,
+}
+
+// Where the check stands: on, at a word and with so many variables seen in the clause; or stopped by a fault met at a word.
+pub enum Walk {
+    On(usize, u32),
+    Met(Fault, usize),
+}
+
+// Whose fault it is: faults of a query have numbers of their own.
+pub enum Refusal {
+    Image(Fault),
+    Query(Fault),
+}
+
+// What a check answers: legal, or the refusal and the position.
+pub enum Verdict {
+    Legal,
+    Refused(Refusal, usize),
+}
