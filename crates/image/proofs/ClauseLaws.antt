@@ -4,7 +4,7 @@ use mathlib.Core.Path.{_≡_, sym, ap, _∙_}
 use mathlib.Core.List.{List}
 use Prim.Native.Nat.{ℕ, _≤_, _<_}
 use native.Mathlib.Omega.{arith}
-use lib.ListN.{getD}
+use lib.ListN.{length, getD}
 use Rattle.model.specs.declared.Fault.{Fault}
 use Rattle.model.specs.declared.Walk.{Walk}
 use Rattle.model.specs.declared.Walk.the-variants.{On, Met}
@@ -12,7 +12,7 @@ use Rattle.model.specs.declared.Kind.the-variants.{Header}
 use Rattle.model.specs.Fields.{widthsOf, predicateCount, variables, goalCount}
 use Rattle.model.specs.Image.{onward, arguments, goals, clauseWord, clauseEnd, clause, predicates, header, ending, imageWalk}
 use Rattle.words.specs.FieldLaws.{field-lt}
-use Rattle.image.proofs.WalkLaws.{forward-on, body-forward, clauseWord-on}
+use Rattle.image.specs.Positions.{between-on, body-between, clauseWord-between, clauseWord-present}
 
 module _ (image words : List ℕ) (fewest headArity at : ℕ) where
   -- a fault in the CLAUSE word is the clause's
@@ -35,8 +35,11 @@ module _ (image words : List ℕ) (fewest headArity at : ℕ) where
     -- a clause's end is not before its CLAUSE word
     pub clause-forward : (end last : ℕ) → found ≡ On end last → at ≤ end
     clause-forward end last e =
-        let f = forward-on next end last (onward (goals (goalCount word) image words (variables word)) (arguments headArity words (variables word) next seen)) (sym body ∙ e) (body-forward image words (goalCount word) (variables word) headArity next seen) in
-        omega (arith, clauseWord-on words fewest at next seen (sym begins))
+        let h = clauseWord-present words fewest at next seen (sym begins) in
+        let begin = between-on at (length words) next seen (clauseWord words fewest at) (sym begins) (clauseWord-between words fewest at (omega arith)) in
+        let rest = between-on next (length words) end last (onward (goals (goalCount word) image words (variables word)) (arguments headArity words (variables word) next seen)) (sym body ∙ e)
+        (body-between image words (goalCount word) (variables word) headArity next seen (begin .1)) in
+        omega arith
 
 -- the predicate count is a field of ten bits
 pub predicateCount-lt : (word : ℕ) → predicateCount word < 1024

@@ -4,7 +4,7 @@ use mathlib.Core.List.{List, [], _∷_}
 use Prim.Native.Nat.{ℕ, _+_, _*_}
 use lib.Dec.{T, eqb}
 use Rattle.model.specs.Fields.{widthsOf, total, below, field}
-use Rattle.model.specs.Numbers.{faultNumber, refusalNumber, verdictNumber}
+use Rattle.model.specs.Numbers.{verdictNumber}
 use Rattle.model.specs.Image.{variableAt, argument, arguments, goalWord, goal, goals, clauseWord, clauseEnd, clause, clauses, predicate, predicates, header, ending, imageWalk, queryWalk, checkImage, checkQuery}
 
 pub data Example : Type 0 where
@@ -40,5 +40,5 @@ examples =
     ∷ []
 
 pub bench-examples : T (allHold examples)
-unfolding holds allHold widthsOf total below field faultNumber refusalNumber verdictNumber variableAt argument arguments goalWord goal goals clauseWord clauseEnd clause clauses predicate predicates header ending imageWalk queryWalk checkImage checkQuery
+unfolding holds allHold widthsOf total below field variableAt argument arguments goalWord goal goals clauseWord clauseEnd clause clauses predicate predicates header ending imageWalk queryWalk checkImage checkQuery
 bench-examples = tt

@@ -8,7 +8,7 @@ use Rattle.model.specs.declared.Refusal.the-variants.{Image, Query}
 use Rattle.model.specs.declared.Verdict.{Verdict}
 use Rattle.model.specs.declared.Verdict.the-variants.{Legal, Refused}
 
-unfoldable pub faultNumber : Fault → ℕ
+abbrev pub faultNumber : Fault → ℕ
 faultNumber EmptyImage = 1
 faultNumber WrongEdition = 2
 faultNumber NoPredicates = 3
@@ -27,11 +27,11 @@ faultNumber UnusedVariable = 15
 faultNumber ClauseLength = 16
 faultNumber LeftOver = 17
 
-unfoldable pub refusalNumber : Refusal → ℕ
+abbrev pub refusalNumber : Refusal → ℕ
 refusalNumber (Image fault) = faultNumber fault
 refusalNumber (Query fault) = 32 + faultNumber fault
 
 -- as one number: number times 2^32 plus position, 0 if legal
-unfoldable pub verdictNumber : Verdict → ℕ
+abbrev pub verdictNumber : Verdict → ℕ
 verdictNumber Legal = 0
 verdictNumber (Refused refusal at) = refusalNumber refusal * 4294967296 + at

@@ -1,0 +1,67 @@
+// What the signing host in C sees: exported functions over its slices. `include/cumbwael.h` declares them.
+use model::Fault;
+use model::Refusal;
+use model::Verdict;
+ghost use mathlib.Core.Path.{_≡_};
+ghost use Prim.Native.Nat.{_+_, _*_, _≤_, _<_};
+ghost use lib.ListN.{length};
+ghost use Rattle.model.specs.Numbers.{verdictNumber};
+ghost use Rattle.model.specs.Image.{checkImage};
+ghost use Rattle.model.specs.Bytes.{wordOfBytes, wordsFrom, checkBytes};
+ghost use Rattle.host.specs.Near.{Near};
+
+// Number times 2^32 plus position, 0 if legal.
+fn verdict_number(verdict: Verdict) -> u64
+    requires { ⌜ Near verdict ⌝ }
+    ensures { λ r. ⌜ r ≡ verdictNumber verdict ⌝ }
+{
+    match verdict {
+        Verdict::Legal => 0,
+        Verdict::Refused(refusal, at) => numbers::refusal_number(refusal) as u64 * 4294967296
+            + at as u64,
+    }
+}
+
+fn word_of(a: u8, b: u8, c: u8, d: u8) -> u32
+    ensures { λ r. ⌜ r ≡ ((a * 256 + b) * 256 + c) * 256 + d ⌝ }
+{
+    ((a as u32 * 256 + b as u32) * 256 + c as u32) * 256 + d as u32
+}
+
+// Word `k` of the bytes, most significant byte first.
+fn word_of_bytes(bytes: &[u8], k: usize) -> u32
+    requires { ⌜ 4 * k + 3 < length (now bytes) ⌝ }
+    ensures { λ r. ⌜ r ≡ wordOfBytes (now (bytes .entry)) k ⌝ }
+{
+    let at = 4 * k;
+    word_of(bytes[at], bytes[at + 1], bytes[at + 2], bytes[at + 3])
+}
+
+// The check of the first `count` words. They are copied to the stack, so that the image is judged as words: 512 KiB.
+fn check_words(bytes: &[u8], count: usize) -> u64
+    requires { ⌜ (count ≤ 131072) × (4 * count ≤ length (now bytes)) ⌝ }
+    ensures { λ r. ⌜ r ≡ verdictNumber (checkImage (wordsFrom (now (bytes .entry)) count 0)) ⌝ }
+{
+    let mut words = [0u32; 131072];
+    let mut k: usize = 0;
+    while k < count {
+        words[k] = word_of_bytes(bytes, k);
+        k += 1;
+    }
+    verdict_number(image::check_image(&words[..count]))
+}
+
+// The check of an image handed as bytes, most significant first.
+#[no_mangle]
+pub extern "C" fn cumbwael_check(bytes: &[u8]) -> u64
+    ensures { λ r. ⌜ r ≡ checkBytes (now (bytes .entry)) ⌝ }
+{
+    let mut count = bytes.len() / 4;
+    if 131072 < count {
+        count = 131072;
+    }
+    if bytes.len() % 4 != 0 {
+        return verdict_number(Verdict::Refused(Refusal::Image(Fault::EndsEarly), count));
+    }
+    check_words(bytes, count)
+}

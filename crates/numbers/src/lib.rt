@@ -1,0 +1,39 @@
+// Document 01's number for each refusal, as the definitions of `model` give them.
+use model::Fault;
+use model::Refusal;
+ghost use mathlib.Core.Path.{_≡_};
+ghost use Prim.Native.Nat.{_<_};
+ghost use Rattle.model.specs.Numbers.{faultNumber, refusalNumber};
+
+pub fn fault_number(fault: Fault) -> u32
+    ensures { λ r. ⌜ r ≡ faultNumber fault ⌝ }
+{
+    match fault {
+        Fault::EmptyImage => 1,
+        Fault::WrongEdition => 2,
+        Fault::NoPredicates => 3,
+        Fault::ZeroField => 4,
+        Fault::LengthField => 5,
+        Fault::EndsEarly => 6,
+        Fault::FirstClause => 7,
+        Fault::ClauseExpected => 8,
+        Fault::VariableCount => 9,
+        Fault::GoalCount => 10,
+        Fault::ArgumentExpected => 11,
+        Fault::VariableNumber => 12,
+        Fault::GoalExpected => 13,
+        Fault::NoSuchPredicate => 14,
+        Fault::UnusedVariable => 15,
+        Fault::ClauseLength => 16,
+        Fault::LeftOver => 17,
+    }
+}
+
+pub fn refusal_number(refusal: Refusal) -> u32
+    ensures { λ r. ⌜ r ≡ refusalNumber refusal ⌝ }
+{
+    match refusal {
+        Refusal::Image(fault) => fault_number(fault),
+        Refusal::Query(fault) => 32 + fault_number(fault),
+    }
+}
