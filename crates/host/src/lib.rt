@@ -37,18 +37,34 @@ fn word_of_bytes(bytes: &[u8], k: usize) -> u32
     word_of(bytes[at], bytes[at + 1], bytes[at + 2], bytes[at + 3])
 }
 
-// The check of the first `count` words. They are copied to the stack, so that the image is judged as words: 512 KiB.
-fn check_words(bytes: &[u8], count: usize) -> u64
-    requires { ⌜ (count ≤ 131072) × (4 * count ≤ length (now bytes)) ⌝ }
+// The check of the first `count` words, which are laid out in `words`, so that the image is judged as words.
+fn check_words(words: &mut [u32], bytes: &[u8], count: usize) -> u64
+    requires { ⌜ (count ≤ 131072) × (count ≤ length (now words)) × (4 * count ≤ length (now bytes)) ⌝ }
     ensures { λ r. ⌜ r ≡ verdictNumber (checkImage (wordsFrom (now (bytes .entry)) count 0)) ⌝ }
 {
-    let mut words = [0u32; 131072];
     let mut k: usize = 0;
     while k < count {
         words[k] = word_of_bytes(bytes, k);
         k += 1;
     }
     verdict_number(image::check_image(&words[..count]))
+}
+
+// A small image is not made to pay for the room of the largest.
+fn check_small(bytes: &[u8], count: usize) -> u64
+    requires { ⌜ (count ≤ 1024) × (4 * count ≤ length (now bytes)) ⌝ }
+    ensures { λ r. ⌜ r ≡ verdictNumber (checkImage (wordsFrom (now (bytes .entry)) count 0)) ⌝ }
+{
+    let mut words = [0u32; 1024];
+    check_words(&mut words, bytes, count)
+}
+
+fn check_large(bytes: &[u8], count: usize) -> u64
+    requires { ⌜ (count ≤ 131072) × (4 * count ≤ length (now bytes)) ⌝ }
+    ensures { λ r. ⌜ r ≡ verdictNumber (checkImage (wordsFrom (now (bytes .entry)) count 0)) ⌝ }
+{
+    let mut words = [0u32; 131072];
+    check_words(&mut words, bytes, count)
 }
 
 // The check of an image handed as bytes, most significant first.
@@ -63,5 +79,8 @@ pub extern "C" fn cumbwael_check(bytes: &[u8]) -> u64
     if bytes.len() % 4 != 0 {
         return verdict_number(Verdict::Refused(Refusal::Image(Fault::EndsEarly), count));
     }
-    check_words(bytes, count)
+    if count <= 1024 {
+        return check_small(bytes, count);
+    }
+    check_large(bytes, count)
 }

@@ -1,8 +1,8 @@
 -- `host::check_words` meets its contract. The loop's invariant: what is left to do gives the whole. Assumes nothing.
 use mathlib.Core.Path.{_≡_, refl, ap, _∙_}
-use Prim.Native.Nat.{ℕ, _-_, _≤_}
+use Prim.Native.Nat.{_-_, _≤_}
 use native.Mathlib.Omega.{arith}
-use lib.ListN.{length, take, length-take, length-set, length-replicate}
+use lib.ListN.{length, take, length-take, length-set}
 use Rattle.model.specs.Bytes.{wordsFrom}
 use Rattle.model.specs.Image.{checkImage}
 use Rattle.model.specs.Numbers.{verdictNumber}
@@ -11,14 +11,14 @@ use Rattle.host.proofs.check_words.Statement.{statement}
 use Rattle.host.proofs.check_words.Tie as tie
 
 abbrev Inv-loop : tie.InvT-loop
-Inv-loop bytes count words₀ k₀ words k = (k ≤ count) × (length words ≡ 131072) × (take k words ≡ wordsFrom bytes k 0)
+Inv-loop words₀ bytes count k₀ words k = (k ≤ count) × (length words ≡ length words₀) × (take k words ≡ wordsFrom bytes k 0)
 
 abbrev μ-loop : tie.MeasureT-loop
-μ-loop bytes count words₀ k₀ words k = count - k
+μ-loop words₀ bytes count k₀ words k = count - k
 
 loop-holds : tie.Need-loop-holds Inv-loop μ-loop
 unfolding wordsFrom
-loop-holds c = (omega arith, length-replicate {A = ℕ} 131072 0, refl)
+loop-holds c = (omega arith, refl, refl)
 
 word-of-bytes-requires : tie.Need-word-of-bytes-requires Inv-loop μ-loop
 word-of-bytes-requires c κs = omega arith
@@ -26,8 +26,8 @@ word-of-bytes-requires c κs = omega arith
 mul-words : tie.Need-mul-words Inv-loop μ-loop
 mul-words c = omega arith
 
-array-write-words : tie.Need-array-write-words Inv-loop μ-loop
-array-write-words c = omega arith
+slice-write-words : tie.Need-slice-write-words Inv-loop μ-loop
+slice-write-words c = omega arith
 
 add-k : tie.Need-add-k Inv-loop μ-loop
 add-k c = omega arith
@@ -38,10 +38,10 @@ loop-less c = omega arith
 loop-again : tie.Need-loop-again Inv-loop μ-loop
 loop-again c =
     let l = c .before .before .loop in
-    (omega arith, simp length-set (l .inv .1), wordsFrom-store (c .before .before .before .before .args .bytes .now) (l .words) (l .k) (c .word-of-bytes .result) (omega arith) (c .word-of-bytes .ensures) (l .inv .2))
+    (omega arith, simp length-set (l .inv .1), wordsFrom-store (c .before .before .before .before .before .args .bytes .now) (l .words) (l .k) (c .word-of-bytes .result) (omega arith) (c .word-of-bytes .ensures) (l .inv .2))
 
-array-share-prefix-words : tie.Need-array-share-prefix-words Inv-loop μ-loop
-array-share-prefix-words c = omega arith
+slice-reshare-prefix-check-image : tie.Need-slice-reshare-prefix-check-image Inv-loop μ-loop
+slice-reshare-prefix-check-image c = omega arith
 
 slice-aggregate-check-image : tie.Need-slice-aggregate-check-image Inv-loop μ-loop
 slice-aggregate-check-image c = simp length-take (omega arith)
@@ -52,12 +52,15 @@ check-image-requires c κs = omega arith
 verdict-number-requires : tie.Need-verdict-number-requires Inv-loop μ-loop
 verdict-number-requires c κs =
     let l = c .before .before .before .loop in
-    checkImage-near (take (c .before .before .before .before .before .args .count) (l .words)) (c .check-image .result) (c .check-image .ensures) (simp length-take (omega arith))
+    checkImage-near (take (c .before .before .before .before .before .before .args .count) (l .words)) (c .check-image .result) (c .check-image .ensures) (simp length-take (omega arith))
+
+same-length : tie.Need-same-length Inv-loop μ-loop
+same-length c = omega arith
 
 returns : tie.Need-returns Inv-loop μ-loop
 returns c =
     let l = c .before .before .before .before .loop in
-    let e : l .k ≡ c .before .before .before .before .before .before .args .count = omega arith in
+    let e : l .k ≡ c .before .before .before .before .before .before .before .args .count = omega arith in
     c .verdict-number .ensures ∙ ap verdictNumber (c .before .check-image .ensures ∙ ap checkImage (rw e at (l .inv .2)))
 
 pub check-words-spec : {M : Type 1} → statement M
@@ -69,12 +72,13 @@ check-words-spec =
     loop-holds
     word-of-bytes-requires
     mul-words
-    array-write-words
+    slice-write-words
     add-k
     loop-less
     loop-again
-    array-share-prefix-words
+    slice-reshare-prefix-check-image
     slice-aggregate-check-image
     check-image-requires
     verdict-number-requires
+    same-length
     returns)
