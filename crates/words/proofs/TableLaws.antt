@@ -16,19 +16,19 @@ use Rattle.words.specs.Table.{rowOf}
 use Rattle.words.specs.FieldLaws.{total-parts}
 
 -- the code's array, as it stands there
-abbrev pub table : List ℕ
+abbrev pub table : List (List ℕ)
 table =
-    4 ∷ 10 ∷ 1 ∷ 17 ∷ 0 ∷ 0
-    ∷ 4 ∷ 1 ∷ 10 ∷ 17 ∷ 0 ∷ 0
-    ∷ 4 ∷ 6 ∷ 6 ∷ 16 ∷ 0 ∷ 0
-    ∷ 4 ∷ 22 ∷ 6 ∷ 0 ∷ 0 ∷ 0
-    ∷ 4 ∷ 28 ∷ 0 ∷ 0 ∷ 0 ∷ 0
-    ∷ 4 ∷ 10 ∷ 18 ∷ 0 ∷ 0 ∷ 0
-    ∷ 1 ∷ 6 ∷ 6 ∷ 4 ∷ 6 ∷ 9
-    ∷ 12 ∷ 3 ∷ 17 ∷ 0 ∷ 0 ∷ 0
-    ∷ 1 ∷ 6 ∷ 4 ∷ 10 ∷ 11 ∷ 0
-    ∷ 32 ∷ 0 ∷ 0 ∷ 0 ∷ 0 ∷ 0
-    ∷ 3 ∷ 29 ∷ 0 ∷ 0 ∷ 0 ∷ 0
+    (4 ∷ 10 ∷ 1 ∷ 17 ∷ 0 ∷ 0 ∷ [])
+    ∷ (4 ∷ 1 ∷ 10 ∷ 17 ∷ 0 ∷ 0 ∷ [])
+    ∷ (4 ∷ 6 ∷ 6 ∷ 16 ∷ 0 ∷ 0 ∷ [])
+    ∷ (4 ∷ 22 ∷ 6 ∷ 0 ∷ 0 ∷ 0 ∷ [])
+    ∷ (4 ∷ 28 ∷ 0 ∷ 0 ∷ 0 ∷ 0 ∷ [])
+    ∷ (4 ∷ 10 ∷ 18 ∷ 0 ∷ 0 ∷ 0 ∷ [])
+    ∷ (1 ∷ 6 ∷ 6 ∷ 4 ∷ 6 ∷ 9 ∷ [])
+    ∷ (12 ∷ 3 ∷ 17 ∷ 0 ∷ 0 ∷ 0 ∷ [])
+    ∷ (1 ∷ 6 ∷ 4 ∷ 10 ∷ 11 ∷ 0 ∷ [])
+    ∷ (32 ∷ 0 ∷ 0 ∷ 0 ∷ 0 ∷ 0 ∷ [])
+    ∷ (3 ∷ 29 ∷ 0 ∷ 0 ∷ 0 ∷ 0 ∷ [])
     ∷ []
 
 -- a test that holds at every number below a bound holds at each
@@ -45,7 +45,7 @@ upto-at (suc n) test h k l = go (test n) refl (upto-at n test) h
     go false q rest u = absurd u
 
 rowTest : Kind → ℕ → Bool
-rowTest kind i = eqb (getD table (6 * rowOf kind + i) 0) (getD (widthsOf kind) i 0)
+rowTest kind i = eqb (getD (getD table (rowOf kind) []) i 0) (getD (widthsOf kind) i 0)
 
 rowTest-all : (kind : Kind) → T (upto 6 (rowTest kind))
 unfolding rowTest widthsOf
@@ -61,9 +61,9 @@ rowTest-all Node2 = tt
 rowTest-all Node3 = tt
 rowTest-all Value = tt
 
-pub table-row : (kind : Kind) (i : ℕ) → i < 6 → getD table (6 * rowOf kind + i) 0 ≡ getD (widthsOf kind) i 0
+pub table-row : (kind : Kind) (i : ℕ) → i < 6 → getD (getD table (rowOf kind) []) i 0 ≡ getD (widthsOf kind) i 0
 unfolding rowTest
-table-row kind i h = eqb→eq (getD table (6 * rowOf kind + i) 0) (getD (widthsOf kind) i 0) (upto-at 6 (rowTest kind) (rowTest-all kind) i h)
+table-row kind i h = eqb→eq (getD (getD table (rowOf kind) []) i 0) (getD (widthsOf kind) i 0) (upto-at 6 (rowTest kind) (rowTest-all kind) i h)
 
 pub record Row (kind : Kind) : Type 0 where
   pub row : rowOf kind < 11

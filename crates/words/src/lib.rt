@@ -6,74 +6,19 @@ ghost use lib.ListN.{getD};
 ghost use Rattle.model.specs.Fields.{widthsOf, below, field, edition, predicateCount, headerZero, imageLength, arity, clauseCount, firstClause, op, variables, goalCount, clauseLength, variableZero, variableNumber, goalPredicate, goalZero};
 ghost use Rattle.words.specs.Table.{rowOf};
 
-// The widths of every kind of word, most significant first, six places a kind.
-const WIDTHS: [u32; 66] = [
-    4,
-    10,
-    1,
-    17,
-    0,
-    0, // Header
-    4,
-    1,
-    10,
-    17,
-    0,
-    0, // Predicate
-    4,
-    6,
-    6,
-    16,
-    0,
-    0, // Clause
-    4,
-    22,
-    6,
-    0,
-    0,
-    0, // Var
-    4,
-    28,
-    0,
-    0,
-    0,
-    0, // Con
-    4,
-    10,
-    18,
-    0,
-    0,
-    0, // Goal
-    1,
-    6,
-    6,
-    4,
-    6,
-    9, // Node0
-    12,
-    3,
-    17,
-    0,
-    0,
-    0, // Node1
-    1,
-    6,
-    4,
-    10,
-    11,
-    0, // Node2
-    32,
-    0,
-    0,
-    0,
-    0,
-    0, // Node3
-    3,
-    29,
-    0,
-    0,
-    0,
-    0, // Value
+// The widths of every kind of word, most significant first, a row a kind.
+const WIDTHS: [[u32; 6]; 11] = [
+    [4, 10, 1, 17, 0, 0], // Header
+    [4, 1, 10, 17, 0, 0], // Predicate
+    [4, 6, 6, 16, 0, 0], // Clause
+    [4, 22, 6, 0, 0, 0], // Var
+    [4, 28, 0, 0, 0, 0], // Con
+    [4, 10, 18, 0, 0, 0], // Goal
+    [1, 6, 6, 4, 6, 9], // Node0
+    [12, 3, 17, 0, 0, 0], // Node1
+    [1, 6, 4, 10, 11, 0], // Node2
+    [32, 0, 0, 0, 0, 0], // Node3
+    [3, 29, 0, 0, 0, 0], // Value
 ];
 
 fn row(kind: Kind) -> usize
@@ -101,8 +46,8 @@ pub fn width(kind: Kind, i: usize) -> u32
     if 6 <= i {
         return 0;
     }
-    let start = 6 * row(kind);
-    WIDTHS[start + i]
+    let widths = WIDTHS[row(kind)];
+    widths[i]
 }
 
 // The bits below field `i`.
