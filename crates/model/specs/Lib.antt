@@ -2,4 +2,8 @@ pub mod Fields
 pub mod Numbers
 pub mod Image
 pub mod Bytes
+pub mod Rules
+pub mod Encoding
+pub mod Decoding
 pub mod Examples
+pub mod RuleExamples

@@ -1,0 +1,1 @@
+// No code: what a legal image means, as theorems in `specs/`.
