@@ -50,7 +50,7 @@ fn check_words(words: &mut [u32], bytes: &[u8], count: usize) -> u64
     verdict_number(image::check_image(&words[..count]))
 }
 
-// A small image is not made to pay for the room of the largest.
+// For a small image the room of the largest is not filled.
 fn check_small(bytes: &[u8], count: usize) -> u64
     requires { ⌜ (count ≤ 1024) × (4 * count ≤ length (now bytes)) ⌝ }
     ensures { λ r. ⌜ r ≡ verdictNumber (checkImage (wordsFrom (now (bytes .entry)) count 0)) ⌝ }
