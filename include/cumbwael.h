@@ -23,7 +23,8 @@ extern "C" {
  * first fault met (enum cumbwael_fault) and the word, counted from 0, at which it is
  * reported. Nothing outside the slice is read and nothing is written.
  *
- * Stack: 516 KiB at the most, whatever the length.
+ * Stack: 516 KiB at the most, and as much for a small image as for the largest; a thread
+ * that calls it must have them.
  */
 uint64_t cumbwael_check(const uint8_t *bytes, size_t length);
 
