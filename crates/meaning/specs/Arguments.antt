@@ -13,7 +13,7 @@ use Rattle.model.specs.declared.Fault.the-variants.{ZeroField, EndsEarly, Argum
 use Rattle.model.specs.declared.Walk.the-variants.{On, Met}
 use Rattle.model.specs.Fields.{widthsOf, total, below, field, op, variableZero, variableNumber, constant}
 use Rattle.model.specs.Image.{onward, variableAt, argument, arguments}
-use Rattle.model.specs.Rules.{Arg, con, var}
+use Rattle.model.specs.Rules.{Argument, con, var}
 use Rattle.model.specs.Encoding.{Word, Words, encodeArg, WellFormedArg, seenWith, seenAfter}
 use Rattle.model.specs.Decoding.{decodeArg, decodeArgs}
 use Rattle.words.specs.FieldLaws.{field-join, field-lt, fieldsFrom, join-field}
@@ -53,7 +53,7 @@ unfolding encodeArg widthsOf field below total fieldsFrom
 con-word word h e = sym (rw e at (join-field (widthsOf Con) word h))
 
 -- one argument, where its word stands
-pub argument-complete : (words : List ℕ) (arg : Arg) (declared at seen : ℕ) → declared ≤ 64 → Stands words at (encodeArg arg ∷ []) → WellFormedArg seen arg → seenWith seen arg ≤ declared
+pub argument-complete : (words : List ℕ) (arg : Argument) (declared at seen : ℕ) → declared ≤ 64 → Stands words at (encodeArg arg ∷ []) → WellFormedArg seen arg → seenWith seen arg ≤ declared
     → argument words declared at seen ≡ On (at + 1) (seenWith seen arg)
 unfolding argument variableAt seenWith
 argument-complete words (con value) declared at seen few h good l =
@@ -73,7 +73,7 @@ argument-complete words (var number) declared at seen few h good l = go (ltb num
         rw (lt-ltb at (length words) (h .0), h .1, f .isOp, f .isZero, f .isNumber, lt-ltb number declared (omega arith), q, eq-eqb number seen e, m) refl
 
 -- an argument's word decodes to the argument
-pub arg-decode : (arg : Arg) (seen : ℕ) → WellFormedArg seen arg → seenWith seen arg ≤ 64 → decodeArg (encodeArg arg) ≡ arg
+pub arg-decode : (arg : Argument) (seen : ℕ) → WellFormedArg seen arg → seenWith seen arg ≤ 64 → decodeArg (encodeArg arg) ≡ arg
 unfolding decodeArg seenWith
 arg-decode (con value) seen good few = let f = con-fields value good in rw (f .isOp, f .isConstant) refl
 arg-decode (var number) seen good few = let f = var-fields number (omega arith) in rw (f .isOp, f .isNumber) refl
@@ -115,7 +115,7 @@ argument-sound words small declared at seen {end} {after} few e =
     let there = cond-held (ltb at (length words)) EndsEarly (length words) e in
     go (ltb-true at (length words) (there .0)) (eqb (op (getD words at 0)) 1) refl (there .1)
   where
-    is : (arg : Arg) → at < length words → getD words at 0 ≡ encodeArg arg → WellFormedArg seen arg → end ≡ at + 1 → after ≡ seenWith seen arg → after ≤ declared
+    is : (arg : Argument) → at < length words → getD words at 0 ≡ encodeArg arg → WellFormedArg seen arg → end ≡ at + 1 → after ≡ seenWith seen arg → after ≤ declared
         → Read words (encodeArg arg ∷ []) (arg ∷ []) declared at seen end after
     is arg l w good x y k = record { stands = (l, w, tt); ends = x; numbered = (good, tt); counted = y; kept = k }
 
@@ -135,7 +135,7 @@ argument-sound words small declared at seen {end} {after} few e =
         is (con (constant (getD words at 0))) l (con-word (getD words at 0) (small at) (eqb-true (op (getD words at 0)) 2 (second .0))) (field-lt (widthsOf Con) (getD words at 0) 1) x y (omega arith)
 
 -- the walk finds no fault where the arguments' encoding stands
-pub arguments-complete : {words : List ℕ} (args : List Arg) {declared at seen end after : ℕ} → declared ≤ 64 → Read words (map encodeArg args) args declared at seen end after
+pub arguments-complete : {words : List ℕ} (args : List Argument) {declared at seen end after : ℕ} → declared ≤ 64 → Read words (map encodeArg args) args declared at seen end after
     → arguments (length args) words declared at seen ≡ On end after
 unfolding arguments seenAfter
 arguments-complete [] {at = at} few r = let e = r .ends in let x = add-zero at in let k = r .counted in cc
@@ -146,14 +146,14 @@ arguments-complete {words} (arg ∷ args) {declared} {at} {seen} few r =
     ∙ arguments-complete args few rest
 
 -- and they decode to the arguments
-pub arguments-decode : {words : List ℕ} (args : List Arg) {declared at seen end after : ℕ} → declared ≤ 64 → Read words (map encodeArg args) args declared at seen end after
+pub arguments-decode : {words : List ℕ} (args : List Argument) {declared at seen end after : ℕ} → declared ≤ 64 → Read words (map encodeArg args) args declared at seen end after
     → decodeArgs (length args) words at ≡ args
 unfolding decodeArgs seenAfter
 arguments-decode [] few r = refl
 arguments-decode {words} (arg ∷ args) {declared} {at} {seen} few r =
     let first = read-left (encodeArg arg ∷ []) (map encodeArg args) (arg ∷ []) args r in
     let rest = read-right (encodeArg arg ∷ []) (map encodeArg args) (arg ∷ []) args r in
-    ap₂ (λ (x : Arg) (l : List Arg). x ∷ l)
+    ap₂ (λ (x : Argument) (l : List Argument). x ∷ l)
     (ap decodeArg (r .stands .1) ∙ arg-decode arg seen (first .numbered .0) (omega (arith, first .kept)))
     (arguments-decode args few rest)
 

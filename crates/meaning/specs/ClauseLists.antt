@@ -7,7 +7,7 @@ use native.Mathlib.Nat.{add-zero}
 use lib.ListN.{length, length-append}
 use Rattle.model.specs.declared.Walk.the-variants.{On}
 use Rattle.model.specs.Image.{onward, clause, clauses}
-use Rattle.model.specs.Rules.{Clause, Program}
+use Rattle.model.specs.Rules.{Clause, Rules}
 use Rattle.model.specs.Encoding.{Words, Each, encodeClause, WellFormedClause}
 use Rattle.model.specs.Decoding.{decodeClause, decodeClauses, clauseNext}
 use Rattle.meaning.specs.Stands.{Stands, stands-append, stands-left, stands-right}
@@ -20,7 +20,7 @@ unfolding decodeClauses
 length-decodeClauses zero image headArity at = refl
 length-decodeClauses (suc count) image headArity at = ap suc (length-decodeClauses count image headArity (clauseNext image at))
 
-module _ {image : List ℕ} {program : Program} (known : Declares image program) (headArity : ℕ) (narrow : headArity ≤ 15) where
+module _ {image : List ℕ} {program : Rules} (known : Declares image program) (headArity : ℕ) (narrow : headArity ≤ 15) where
   -- the length field leads to where the encoding ends
   pub clauseNext-is : (one : Clause) (at : ℕ) → WellFormedClause program headArity one → Stands image at (encodeClause one) → clauseNext image at ≡ at + length (encodeClause one)
   unfolding clauseNext

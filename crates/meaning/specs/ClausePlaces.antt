@@ -9,7 +9,7 @@ use native.Mathlib.Nat.{add-zero}
 use lib.ListN.{length, getD, getElem?}
 use Rattle.model.specs.Fields.{predicateCount, arity, goalPredicate}
 use Rattle.model.specs.Image.{predicateWord}
-use Rattle.model.specs.Rules.{Arg, Goal, call, Clause, Program}
+use Rattle.model.specs.Rules.{Argument, Goal, call, Clause, Rules}
 use Rattle.model.specs.Encoding.{Each, encodeArg, encodeCall, encodeGoal, encodeClause, goalArgs, clauseArgs, seenAfter, WellFormedGoal, WellFormedClause}
 use Rattle.model.specs.Decoding.{decodeArg, decodeGoal, decodeClause, goalNext, goalFrom, goalAt}
 use Rattle.meaning.specs.Stands.{Stands}
@@ -20,14 +20,14 @@ use Rattle.meaning.specs.ClauseWords.{ClauseFields}
 use Rattle.meaning.specs.Clauses.{clause-here, clause-there, clause-heads, clause-goals, clause-decode}
 
 -- an argument's word at a place
-pub record ArgPlace (words : List ℕ) (count place : ℕ) (arg : Arg) : Type 0 where
+pub record ArgPlace (words : List ℕ) (count place : ℕ) (arg : Argument) : Type 0 where
   pub there : place < length words
   pub word : getD words place 0 ≡ encodeArg arg
   pub decoded : decodeArg (getD words place 0) ≡ arg
   pub below : ArgBelow count arg
 
-pub args-place : (words : List ℕ) (args : List Arg) {declared at seen end after : ℕ} → declared ≤ 64 → Read words (map encodeArg args) args declared at seen end after
-    → (i : ℕ) (arg : Arg) → getElem? args i ≡ some arg → ArgPlace words declared (at + i) arg
+pub args-place : (words : List ℕ) (args : List Argument) {declared at seen end after : ℕ} → declared ≤ 64 → Read words (map encodeArg args) args declared at seen end after
+    → (i : ℕ) (arg : Argument) → getElem? args i ≡ some arg → ArgPlace words declared (at + i) arg
 unfolding seenAfter
 args-place words [] few r i arg e = let z : _≡_ {A = ℕ} 0 1 = cc in absurd (omega arith)
 args-place words (one ∷ args) {declared} {at} {seen} few r zero arg e =
@@ -41,7 +41,7 @@ args-place words (one ∷ args) {declared} {at} {seen} few r (suc i) arg e =
     rw shift at rest
 
 -- a goal at a place: its word, and its arguments behind it
-pub record GoalPlace (image words : List ℕ) (program : Program) (count place : ℕ) (goal : Goal) : Type 0 where
+pub record GoalPlace (image words : List ℕ) (program : Rules) (count place : ℕ) (goal : Goal) : Type 0 where
   pub there : place < length words
   pub stands : Stands words place (encodeGoal goal)
   pub decoded : decodeGoal image words place ≡ goal
@@ -49,20 +49,20 @@ pub record GoalPlace (image words : List ℕ) (program : Program) (count place :
   -- the predicate that its word names is there, and has as many arguments as the goal
   pub exists : goalPredicate (getD words place 0) < predicateCount (getD image 0 0)
   pub arity : arity (predicateWord image (goalPredicate (getD words place 0))) ≡ length (goalArgs goal)
-  pub args : (i : ℕ) (arg : Arg) → getElem? (goalArgs goal) i ≡ some arg → ArgPlace words count (place + 1 + i) arg
+  pub args : (i : ℕ) (arg : Argument) → getElem? (goalArgs goal) i ≡ some arg → ArgPlace words count (place + 1 + i) arg
 
 -- a clause at a place: its word, its head arguments, its goals
-pub record ClausePlace (image words : List ℕ) (program : Program) (headArity place : ℕ) (clause : Clause) : Type 0 where
+pub record ClausePlace (image words : List ℕ) (program : Rules) (headArity place : ℕ) (clause : Clause) : Type 0 where
   pub there : place < length words
   pub stands : Stands words place (encodeClause clause)
   pub decoded : decodeClause image words headArity place ≡ clause
   pub good : WellFormedClause program headArity clause
-  pub fields : ClauseFields (getD words place 0) (clause .vars) (length (clause .goals)) (length (encodeClause clause))
-  pub heads : (i : ℕ) (arg : Arg) → getElem? (clause .head) i ≡ some arg → ArgPlace words (clause .vars) (place + 1 + i) arg
-  pub goals : (j : ℕ) (goal : Goal) → getElem? (clause .goals) j ≡ some goal → GoalPlace image words program (clause .vars) (goalAt image words headArity place j) goal
-  pub variables : Each (ArgBelow (clause .vars)) (clauseArgs clause)
+  pub fields : ClauseFields (getD words place 0) (clause .variables) (length (clause .goals)) (length (encodeClause clause))
+  pub heads : (i : ℕ) (arg : Argument) → getElem? (clause .head) i ≡ some arg → ArgPlace words (clause .variables) (place + 1 + i) arg
+  pub goals : (j : ℕ) (goal : Goal) → getElem? (clause .goals) j ≡ some goal → GoalPlace image words program (clause .variables) (goalAt image words headArity place j) goal
+  pub variables : Each (ArgBelow (clause .variables)) (clauseArgs clause)
 
-module _ {image : List ℕ} {program : Program} (known : Declares image program) (words : List ℕ) where
+module _ {image : List ℕ} {program : Rules} (known : Declares image program) (words : List ℕ) where
   goal-place : (goal : Goal) {declared at seen end after : ℕ} → declared ≤ 64 → WellFormedGoal program goal → Read words (encodeGoal goal) (goalArgs goal) declared at seen end after
       → GoalPlace image words program declared at goal
   unfolding encodeGoal goalArgs seenAfter
@@ -100,7 +100,7 @@ module _ {image : List ℕ} {program : Program} (known : Declares image program)
       → ClausePlace image words program headArity at one
   unfolding goalAt
   clause-place headArity narrow one at good h =
-      let few : one .vars ≤ 64 = omega (arith, good .variables) in
+      let few : one .variables ≤ 64 = omega (arith, good .variables) in
       record {
         there = clause-there words one at h;
         stands = h;
@@ -109,5 +109,5 @@ module _ {image : List ℕ} {program : Program} (known : Declares image program)
         fields = clause-here known headArity narrow words one at good h;
         heads = args-place words (one .head) few (clause-heads known headArity narrow words one at good h);
         goals = goals-place (one .goals) few (good .calls) (clause-goals known headArity narrow words one at good h);
-        variables = args-below (one .vars) 0 (clauseArgs one) (omega (arith, good .declared));
+        variables = args-below (one .variables) 0 (clauseArgs one) (omega (arith, good .declared));
       }

@@ -16,16 +16,16 @@ use Rattle.words.specs.FieldLaws.{field-join, fieldsFrom, join-field}
 use Rattle.meaning.specs.Walks.{cond-held, cond-failed}
 
 -- the fields of a CLAUSE word
-pub record ClauseFields (word vars count size : ℕ) : Type 0 where
+pub record ClauseFields (word own count size : ℕ) : Type 0 where
   pub isOp : op word ≡ 8
-  pub isVars : variables word ≡ vars
+  pub isVars : variables word ≡ own
   pub isCount : goalCount word ≡ count
   pub isSize : clauseLength word ≡ size
 
-pub clause-fields : (vars count size : ℕ) → vars ≤ 32 → count ≤ 16 → size < 65536 → ClauseFields (join (widthsOf ClauseWord) (8 ∷ vars ∷ count ∷ size ∷ [])) vars count size
+pub clause-fields : (own count size : ℕ) → own ≤ 32 → count ≤ 16 → size < 65536 → ClauseFields (join (widthsOf ClauseWord) (8 ∷ own ∷ count ∷ size ∷ [])) own count size
 unfolding widthsOf field below total
-clause-fields vars count size h k l =
-    let read = field-join (widthsOf ClauseWord) (8 ∷ vars ∷ count ∷ size ∷ []) (omega arith) in
+clause-fields own count size h k l =
+    let read = field-join (widthsOf ClauseWord) (8 ∷ own ∷ count ∷ size ∷ []) (omega arith) in
     record { isOp = read 0; isVars = read 1; isCount = read 2; isSize = read 3 }
 
 pub clause-word : (word : ℕ) → Word word → op word ≡ 8 → word ≡ join (widthsOf ClauseWord) (8 ∷ variables word ∷ goalCount word ∷ clauseLength word ∷ [])
@@ -47,14 +47,14 @@ unfolding clauseWord
 clauseWord-sound words fewest at e =
     let there = cond-held (ltb at (length words)) EndsEarly (length words) e in
     let eight = cond-held (eqb (op (getD words at 0)) 8) ClauseExpected at (there .1) in
-    let vars = cond-held (leb (variables (getD words at 0)) 32) VariableCount at (eight .1) in
-    let most = cond-held (leb (goalCount (getD words at 0)) 16) GoalCount at (vars .1) in
+    let own = cond-held (leb (variables (getD words at 0)) 32) VariableCount at (eight .1) in
+    let most = cond-held (leb (goalCount (getD words at 0)) 16) GoalCount at (own .1) in
     let least = cond-held (leb fewest (goalCount (getD words at 0))) GoalCount at (most .1) in
     let t = least .1 in
     record {
       there = ltb-true at (length words) (there .0);
       isOp = eqb-true (op (getD words at 0)) 8 (eight .0);
-      fewVars = leb-true (variables (getD words at 0)) 32 (vars .0);
+      fewVars = leb-true (variables (getD words at 0)) 32 (own .0);
       fewGoals = leb-true (goalCount (getD words at 0)) 16 (most .0);
       enough = leb-true fewest (goalCount (getD words at 0)) (least .0);
       ends = cc;
@@ -77,13 +77,13 @@ clauseEnd-sound word start at seen e =
     record { used = ltb-false seen (variables word) (used .0); isSize = eqb-true (clauseLength word) (at - start) (size .0); ends = cc; counted = cc }
 
 -- the walk finds no fault at a CLAUSE word with these fields
-pub clauseWord-complete : (words : List ℕ) (fewest at : ℕ) {vars count size : ℕ} → ClauseFields (getD words at 0) vars count size → at < length words → vars ≤ 32 → count ≤ 16 → fewest ≤ count
+pub clauseWord-complete : (words : List ℕ) (fewest at : ℕ) {own count size : ℕ} → ClauseFields (getD words at 0) own count size → at < length words → own ≤ 32 → count ≤ 16 → fewest ≤ count
     → clauseWord words fewest at ≡ On (at + 1) 0
 unfolding clauseWord
-clauseWord-complete words fewest at {vars} {count} f there few most least =
-    rw (lt-ltb at (length words) there, f .isOp, f .isVars, le-leb vars 32 few, f .isCount, le-leb count 16 most, le-leb fewest count least) refl
+clauseWord-complete words fewest at {own} {count} f there few most least =
+    rw (lt-ltb at (length words) there, f .isOp, f .isVars, le-leb own 32 few, f .isCount, le-leb count 16 most, le-leb fewest count least) refl
 
 -- nor where so many words end, with all variables seen
-pub clauseEnd-complete : (word start : ℕ) {vars count size : ℕ} → ClauseFields word vars count size → clauseEnd word start (start + size) vars ≡ On (start + size) 0
+pub clauseEnd-complete : (word start : ℕ) {own count size : ℕ} → ClauseFields word own count size → clauseEnd word start (start + size) own ≡ On (start + size) 0
 unfolding clauseEnd
-clauseEnd-complete word start {vars} {count} {size} f = rw (f .isVars, f .isSize, le-ltb vars vars (omega arith), eq-eqb size (start + size - start) (omega arith)) refl
+clauseEnd-complete word start {own} {count} {size} f = rw (f .isVars, f .isSize, le-ltb own own (omega arith), eq-eqb size (start + size - start) (omega arith)) refl

@@ -8,7 +8,7 @@ use lib.ListN.{length, getD, length-append, length-map}
 use Rattle.model.specs.declared.Walk.the-variants.{On}
 use Rattle.model.specs.Fields.{variables, goalCount, clauseLength}
 use Rattle.model.specs.Image.{onward, arguments, goals, clauseWord, clauseEnd, clause}
-use Rattle.model.specs.Rules.{Goal, call, Clause, Program}
+use Rattle.model.specs.Rules.{Goal, call, Clause, Rules}
 use Rattle.model.specs.Encoding.{Word, Words, Each, encodeArg, encodeGoal, encodeBody, encodeClause, goalArgs, clauseArgs, seenAfter, WellFormedGoal, WellFormedClause}
 use Rattle.model.specs.Decoding.{decodeArgs, decodeGoals, decodeClause}
 use Rattle.meaning.specs.Stands.{Stands}
@@ -22,7 +22,7 @@ pub clause-there : (words : List ℕ) (one : Clause) (at : ℕ) → Stands words
 unfolding encodeClause
 clause-there words one at h = h .0
 
-module _ {image : List ℕ} {program : Program} (known : Declares image program) (headArity : ℕ) (narrow : headArity ≤ 15) where
+module _ {image : List ℕ} {program : Rules} (known : Declares image program) (headArity : ℕ) (narrow : headArity ≤ 15) where
   goals-short : (all : List Goal) → Each (WellFormedGoal program) all → length (flatMap encodeGoal all) ≤ 16 * length all
   unfolding flatMap encodeGoal
   goals-short [] good = omega arith
@@ -37,20 +37,20 @@ module _ {image : List ℕ} {program : Program} (known : Declares image program)
   module _ (words : List ℕ) where
     -- what is read where a clause's encoding stands
     pub clause-here : (one : Clause) (at : ℕ) → WellFormedClause program headArity one → Stands words at (encodeClause one)
-        → ClauseFields (getD words at 0) (one .vars) (length (one .goals)) (length (encodeClause one))
+        → ClauseFields (getD words at 0) (one .variables) (length (one .goals)) (length (encodeClause one))
     unfolding encodeClause
     clause-here one at good h =
-        rw (h .1) (clause-fields (one .vars) (length (one .goals)) (suc (length (encodeBody one))) (good .variables) (good .goalCount) (omega (arith, clause-short one good)))
+        rw (h .1) (clause-fields (one .variables) (length (one .goals)) (suc (length (encodeBody one))) (good .variables) (good .goalCount) (omega (arith, clause-short one good)))
 
     -- its arguments, head first, as the walk meets them
     clause-body : (one : Clause) (at : ℕ) → WellFormedClause program headArity one → Stands words at (encodeClause one)
-        → Read words (encodeBody one) (clauseArgs one) (one .vars) (at + 1) 0 (at + length (encodeClause one)) (one .vars)
+        → Read words (encodeBody one) (clauseArgs one) (one .variables) (at + 1) 0 (at + length (encodeClause one)) (one .variables)
     unfolding encodeClause
     clause-body one at good h = record { stands = h .2; ends = omega arith; numbered = good .numbered; counted = sym (good .declared); kept = omega arith }
 
     -- the head arguments stand behind the CLAUSE word
     pub clause-heads : (one : Clause) (at : ℕ) → WellFormedClause program headArity one → Stands words at (encodeClause one)
-        → Read words (map encodeArg (one .head)) (one .head) (one .vars) (at + 1) 0 (at + 1 + headArity) (seenAfter 0 (one .head))
+        → Read words (map encodeArg (one .head)) (one .head) (one .variables) (at + 1) 0 (at + 1 + headArity) (seenAfter 0 (one .head))
     unfolding encodeBody clauseArgs
     clause-heads one at good h =
         let e : length (map encodeArg (one .head)) ≡ headArity = length-map (one .head) encodeArg ∙ good .heads in
@@ -58,7 +58,7 @@ module _ {image : List ℕ} {program : Program} (known : Declares image program)
 
     -- the goals behind them
     pub clause-goals : (one : Clause) (at : ℕ) → WellFormedClause program headArity one → Stands words at (encodeClause one)
-        → Read words (flatMap encodeGoal (one .goals)) (flatMap goalArgs (one .goals)) (one .vars) (at + 1 + headArity) (seenAfter 0 (one .head)) (at + length (encodeClause one)) (one .vars)
+        → Read words (flatMap encodeGoal (one .goals)) (flatMap goalArgs (one .goals)) (one .variables) (at + 1 + headArity) (seenAfter 0 (one .head)) (at + length (encodeClause one)) (one .variables)
     unfolding encodeBody clauseArgs
     clause-goals one at good h =
         let e : length (map encodeArg (one .head)) ≡ headArity = length-map (one .head) encodeArg ∙ good .heads in
@@ -69,12 +69,12 @@ module _ {image : List ℕ} {program : Program} (known : Declares image program)
     unfolding decodeClause
     clause-decode one at good h =
         let f = clause-here one at good h in
-        let few : one .vars ≤ 64 = omega (arith, good .variables) in
+        let few : one .variables ≤ 64 = omega (arith, good .variables) in
         let heads : decodeArgs headArity words (at + 1) ≡ one .head =
         ap (λ (n : ℕ). decodeArgs n words (at + 1)) (sym (good .heads)) ∙ arguments-decode (one .head) few (clause-heads one at good h) in
         let rest : decodeGoals (goalCount (getD words at 0)) image words (at + 1 + headArity) ≡ one .goals =
         ap (λ (n : ℕ). decodeGoals n image words (at + 1 + headArity)) (f .isCount) ∙ goals-decode known words (one .goals) few (good .calls) (clause-goals one at good h) in
-        λ i. record { vars = f .isVars i; head = heads i; goals = rest i }
+        λ i. record { variables = f .isVars i; head = heads i; goals = rest i }
 
     -- the walk finds no fault where the encoding of a well-formed clause stands
     pub clause-complete : (one : Clause) (fewest at : ℕ) → WellFormedClause program headArity one → fewest ≤ length (one .goals) → Stands words at (encodeClause one)
@@ -82,9 +82,9 @@ module _ {image : List ℕ} {program : Program} (known : Declares image program)
     unfolding clause
     clause-complete one fewest at good enough h =
         let f = clause-here one at good h in
-        let few : one .vars ≤ 64 = omega (arith, good .variables) in
-        let heads : arguments headArity words (one .vars) (at + 1) 0 ≡ On (at + 1 + headArity) (seenAfter 0 (one .head)) =
-        ap (λ (n : ℕ). arguments n words (one .vars) (at + 1) 0) (sym (good .heads)) ∙ arguments-complete (one .head) few (clause-heads one at good h) in
+        let few : one .variables ≤ 64 = omega (arith, good .variables) in
+        let heads : arguments headArity words (one .variables) (at + 1) 0 ≡ On (at + 1 + headArity) (seenAfter 0 (one .head)) =
+        ap (λ (n : ℕ). arguments n words (one .variables) (at + 1) 0) (sym (good .heads)) ∙ arguments-complete (one .head) few (clause-heads one at good h) in
         let rest = goals-complete known words (one .goals) few (good .calls) (clause-goals one at good h) in
         let first = clauseWord-complete words fewest at f (clause-there words one at h) (good .variables) (good .goalCount) enough in
         rw (f .isVars, f .isCount, first, heads, rest) (clauseEnd-complete (getD words at 0) at f)

@@ -13,7 +13,7 @@ use Rattle.model.specs.declared.Walk.{Walk}
 use Rattle.model.specs.declared.Walk.the-variants.{On}
 use Rattle.model.specs.Fields.{widthsOf, total, below, field, predicateCount, arity, op, goalPredicate, goalZero}
 use Rattle.model.specs.Image.{onward, predicateWord, arguments, goalWord, goal, goals}
-use Rattle.model.specs.Rules.{Arg, Goal, call, Program}
+use Rattle.model.specs.Rules.{Argument, Goal, call, Rules}
 use Rattle.model.specs.Encoding.{Word, Words, Each, encodeArg, encodeCall, encodeGoal, goalArgs, arityOf, WellFormedGoal, seenAfter}
 use Rattle.model.specs.Decoding.{decodeArgs, goalNext, decodeGoal, decodeGoals}
 use Rattle.words.specs.FieldLaws.{field-join, fieldsFrom, join-field}
@@ -23,7 +23,7 @@ use Rattle.meaning.specs.Reading.{Read, read-append, read-left, read-rig
 use Rattle.meaning.specs.Arguments.{arguments-complete, arguments-decode, arguments-sound, length-decodeArgs}
 
 -- what an image says of a program's predicates where a goal is judged: how many there are, and their arities
-pub record Declares (image : List ℕ) (program : Program) : Type 0 where
+pub record Declares (image : List ℕ) (program : Rules) : Type 0 where
   pub count : predicateCount (getD image 0 0) ≡ length program
   pub few : length program ≤ 1023
   pub narrow : (predicate : ℕ) → arityOf program predicate ≤ 15
@@ -78,9 +78,9 @@ goalNext-is image words at =
     let args = arity (predicateWord image (goalPredicate (getD words at 0))) in
     omega (arith, length-map (decodeArgs args words (at + 1)) encodeArg, length-decodeArgs args words (at + 1))
 
-module _ {image : List ℕ} {program : Program} (known : Declares image program) (words : List ℕ) where
+module _ {image : List ℕ} {program : Rules} (known : Declares image program) (words : List ℕ) where
   -- what is read where a goal's encoding stands
-  pub goal-here : (predicate : ℕ) (args : List Arg) (at : ℕ) → WellFormedGoal program (call predicate args) → Stands words at (encodeGoal (call predicate args))
+  pub goal-here : (predicate : ℕ) (args : List Argument) (at : ℕ) → WellFormedGoal program (call predicate args) → Stands words at (encodeGoal (call predicate args))
       → GoalFields (getD words at 0) predicate × (arity (predicateWord image (goalPredicate (getD words at 0))) ≡ length args)
   unfolding encodeGoal
   goal-here predicate args at good h =
@@ -103,7 +103,7 @@ module _ {image : List ℕ} {program : Program} (known : Declares image program)
   goal-decode (call predicate args) {declared} {at} {seen} few good r =
       let f = goal-here predicate args at good (r .stands) in
       let rest = read-right (encodeCall predicate ∷ []) (map encodeArg args) [] args r in
-      ap₂ (λ (k : ℕ) (l : List Arg). call k l) (f .0 .isPredicate) (ap (λ (n : ℕ). decodeArgs n words (at + 1)) (f .1) ∙ arguments-decode args few rest)
+      ap₂ (λ (k : ℕ) (l : List Argument). call k l) (f .0 .isPredicate) (ap (λ (n : ℕ). decodeArgs n words (at + 1)) (f .1) ∙ arguments-decode args few rest)
 
   pub goal-sound : Words words → (declared at seen : ℕ) {end after : ℕ} → seen ≤ declared → goal image words declared at seen ≡ On end after
       → Read words (encodeGoal (decodeGoal image words at)) (goalArgs (decodeGoal image words at)) declared at seen end after × WellFormedGoal program (decodeGoal image words at)

@@ -7,12 +7,12 @@ use native.Mathlib.Nat.{add-zero, zero-add}
 use lib.Dec.{eqb, leb}
 use lib.ListN.{length, getD, length-append}
 use borrow.Author.Tests.{eqb-true, eqb-false, eq-eqb, ne-eqb, leb-true, le-leb}
-use Rattle.model.specs.declared.Kind.the-variants.{Header, Predicate}
+use Rattle.model.specs.declared.Kind.the-variants.{Header, Predicate as PredicateWord}
 use Rattle.model.specs.declared.Fault.the-variants.{EmptyImage, WrongEdition, NoPredicates, ZeroField, LengthField, EndsEarly}
 use Rattle.model.specs.declared.Walk.the-variants.{On}
 use Rattle.model.specs.Fields.{widthsOf, total, below, field, join, edition, predicateCount, headerZero, imageLength, arity}
 use Rattle.model.specs.Image.{predicateWord, header}
-use Rattle.model.specs.Rules.{Program}
+use Rattle.model.specs.Rules.{Rules}
 use Rattle.model.specs.Encoding.{Word, Each, arityOf, encodeClauses, encodePredicates, WellFormedPred}
 use Rattle.model.specs.Decoding.{decode, decodePredicate, decodePredicates}
 use Rattle.words.specs.FieldLaws.{field-join, field-lt, fieldsFrom, join-field}
@@ -87,14 +87,14 @@ header-sound image e =
     }
 
 -- arities of well-formed predicates have four bits
-pub arityOf-narrow : (program all : Program) → Each (WellFormedPred program) all → (number : ℕ) → arityOf all number ≤ 15
+pub arityOf-narrow : (program all : Rules) → Each (WellFormedPred program) all → (number : ℕ) → arityOf all number ≤ 15
 unfolding arityOf
 arityOf-narrow program [] good number = omega arith
 arityOf-narrow program (one ∷ all) good zero = good .0 .arity
 arityOf-narrow program (one ∷ all) good (suc number) = arityOf-narrow program all (good .1) number
 
 -- and are read back from their words
-pub arityOf-encoded : (image : List ℕ) (program all : Program) (number at : ℕ) → Each (WellFormedPred program) all → at + length (flatMap encodeClauses all) ≤ 131071
+pub arityOf-encoded : (image : List ℕ) (program all : Rules) (number at : ℕ) → Each (WellFormedPred program) all → at + length (flatMap encodeClauses all) ≤ 131071
     → Stands image (1 + number) (encodePredicates at all) → (k : ℕ) → k < length all → arity (predicateWord image (number + k)) ≡ arityOf all k
 unfolding encodePredicates arityOf flatMap
 arityOf-encoded image program [] number at good h words k l = absurd (omega arith)
@@ -123,7 +123,7 @@ arityOf-decoded (suc count) image number (suc k) h =
 arityOf-decoded-narrow : (count : ℕ) (image : List ℕ) (number k : ℕ) → arityOf (decodePredicates count image number) k ≤ 15
 unfolding decodePredicates decodePredicate arityOf widthsOf
 arityOf-decoded-narrow zero image number k = omega arith
-arityOf-decoded-narrow (suc count) image number zero = omega (arith, field-lt (widthsOf Predicate) (predicateWord image number) 0)
+arityOf-decoded-narrow (suc count) image number zero = omega (arith, field-lt (widthsOf PredicateWord) (predicateWord image number) 0)
 arityOf-decoded-narrow (suc count) image number (suc k) = arityOf-decoded-narrow count image (suc number) k
 
 pub declares-decoded : (image : List ℕ) → Declares image (decode image)

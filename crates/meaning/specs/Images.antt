@@ -17,7 +17,7 @@ use Rattle.model.specs.declared.Refusal.the-variants.{Image}
 use Rattle.model.specs.declared.Verdict.the-variants.{Legal}
 use Rattle.model.specs.Fields.{widthsOf, join, predicateCount, imageLength}
 use Rattle.model.specs.Image.{onward, predicates, header, ending, imageWalk, verdict, checkImage}
-use Rattle.model.specs.Rules.{Program}
+use Rattle.model.specs.Rules.{Rules}
 use Rattle.model.specs.Encoding.{Words, encodeClauses, encodePredicates, encodedLength, encode, WellFormed}
 use Rattle.model.specs.Decoding.{decodePredicates, decode}
 use Rattle.words.specs.FieldLaws.{field-lt}
@@ -27,28 +27,28 @@ use Rattle.meaning.specs.Goals.{Declares}
 use Rattle.meaning.specs.Predicates.{PredicatesStand, predicates-complete, predicates-decode, predicates-sound}
 use Rattle.meaning.specs.Headers.{HeaderFields, HeaderFound, header-fields, header-word, header-complete, header-sound, arityOf-narrow, arityOf-encoded, declares-decoded}
 
-pub length-encodePredicates : (at : ℕ) (all : Program) → length (encodePredicates at all) ≡ length all
+pub length-encodePredicates : (at : ℕ) (all : Rules) → length (encodePredicates at all) ≡ length all
 unfolding encodePredicates
 length-encodePredicates at [] = refl
 length-encodePredicates at (one ∷ all) = ap suc (length-encodePredicates (at + length (encodeClauses one)) all)
 
-pub length-encode : (program : Program) → length (encode program) ≡ encodedLength program
+pub length-encode : (program : Rules) → length (encode program) ≡ encodedLength program
 unfolding encode encodedLength
 length-encode program =
     omega (arith, length-append (encodePredicates (1 + length program) program) (flatMap encodeClauses program), length-encodePredicates (1 + length program) program)
 
-pub encode-fits : (program : Program) → WellFormed program → 1 + length program + length (flatMap encodeClauses program) ≤ 131071
+pub encode-fits : (program : Rules) → WellFormed program → 1 + length program + length (flatMap encodeClauses program) ≤ 131071
 unfolding encodedLength
 encode-fits program good = omega (arith, length-encode program, good .imageLength)
 
 -- the parts of an encoding, where it stands
-pub record Parts (image : List ℕ) (program : Program) : Type 0 where
+pub record Parts (image : List ℕ) (program : Rules) : Type 0 where
   pub there : 0 < length image
   pub first : HeaderFields (getD image 0 0) (length program) (encodedLength program)
   pub words : Stands image 1 (encodePredicates (1 + length program) program)
   pub clauses : Stands image (1 + length program) (flatMap encodeClauses program)
 
-pub encode-parts : (image : List ℕ) (program : Program) → WellFormed program → Stands image 0 (encode program) → Parts image program
+pub encode-parts : (image : List ℕ) (program : Rules) → WellFormed program → Stands image 0 (encode program) → Parts image program
 unfolding encode encodedLength
 encode-parts image program good h = record {
   there = h .0;
@@ -58,7 +58,7 @@ encode-parts image program good h = record {
       rw (length-encodePredicates (1 + length program) program) at (stands-right image (encodePredicates (1 + length program) program) (flatMap encodeClauses program) 1 (h .2));
 }
 
-pub declares-encoded : (image : List ℕ) (program : Program) → WellFormed program → Parts image program → Declares image program
+pub declares-encoded : (image : List ℕ) (program : Rules) → WellFormed program → Parts image program → Declares image program
 unfolding encodedLength
 declares-encoded image program good parts = record {
   count = parts .first .isCount;
@@ -83,7 +83,7 @@ unfolding ending
 ending-sound words at seen e = ltb-false at (length words) (cond-failed (ltb at (length words)) LeftOver at e .0)
 
 -- the encoding of a well-formed rule set is legal
-pub image-complete : (program : Program) → WellFormed program → checkImage (encode program) ≡ Legal
+pub image-complete : (program : Rules) → WellFormed program → checkImage (encode program) ≡ Legal
 unfolding checkImage imageWalk encodedLength
 image-complete program good =
     let image = encode program in
@@ -96,7 +96,7 @@ image-complete program good =
     rw (parts .first .isCount, first, all, last) refl
 
 -- and decodes to that rule set
-pub image-decode : (program : Program) → WellFormed program → decode (encode program) ≡ program
+pub image-decode : (program : Rules) → WellFormed program → decode (encode program) ≡ program
 unfolding decode encodedLength
 image-decode program good =
     let image = encode program in
@@ -106,7 +106,7 @@ image-decode program good =
     ∙ predicates-decode known program 0 (1 + length program) (good .predicates) (encode-fits program good) (parts .words) (parts .clauses)
 
 -- the parts that the walk passed, put together
-image-joined : {image : List ℕ} {program : Program} (known : Declares image program) → Words image → {place start at end after : ℕ} → HeaderFound image place start
+image-joined : {image : List ℕ} {program : Rules} (known : Declares image program) → Words image → {place start at end after : ℕ} → HeaderFound image place start
     → at ≡ 1 + length program → PredicatesStand known program 0 at end after → length image ≤ end → (encode program ≡ image) × WellFormed program
 unfolding encode encodedLength widthsOf
 image-joined {image} {program} known small h e all l =

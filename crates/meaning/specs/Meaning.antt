@@ -10,7 +10,7 @@ use lib.ListN.{length, getD, getElem?}
 use Rattle.model.specs.declared.Verdict.the-variants.{Legal}
 use Rattle.model.specs.Fields.{predicateCount, arity, clauseCount}
 use Rattle.model.specs.Image.{predicateWord, checkImage, checkQuery}
-use Rattle.model.specs.Rules.{Clause, Pred, Program}
+use Rattle.model.specs.Rules.{Clause, Predicate, Rules}
 use Rattle.model.specs.Encoding.{Words, encode, encodeQuery, WellFormed, WellFormedQuery}
 use Rattle.model.specs.Decoding.{clauseAt, decodeClause, decodePredicate, decode, decodeQuery}
 use Rattle.meaning.specs.Stands.{Stands, stands-behind}
@@ -24,7 +24,7 @@ use Rattle.meaning.specs.EncodedWords.{encode-words, encodeQuery-words}
 use Rattle.meaning.specs.PredicatePlaces.{PredicatePlace, predicate-place}
 
 -- an image is legal exactly if it is the encoding of a well-formed rule set
-pub legal-encodes : (image : List ℕ) → Words image → (checkImage image ≡ Legal) ↔ ((program : Program) × WellFormed program × (encode program ≡ image))
+pub legal-encodes : (image : List ℕ) → Words image → (checkImage image ≡ Legal) ↔ ((program : Rules) × WellFormed program × (encode program ≡ image))
 legal-encodes image words = (
   λ legal. let s = image-sound image words legal in (decode image, s .1, s .0),
   λ encoded. ap checkImage (sym (encoded .2)) ∙ image-complete (encoded .0) (encoded .1),
@@ -35,10 +35,10 @@ pub legal-decodes : (image : List ℕ) → Words image → checkImage image ≡ 
 legal-decodes = image-sound
 
 -- and an encoding, which is a list of words, decodes to nothing else
-pub encode-decodes : (program : Program) → WellFormed program → (decode (encode program) ≡ program) × Words (encode program)
+pub encode-decodes : (program : Rules) → WellFormed program → (decode (encode program) ≡ program) × Words (encode program)
 encode-decodes program good = (image-decode program good, encode-words program good)
 
-pub encode-unique : (image : List ℕ) (program : Program) → WellFormed program → encode program ≡ image → decode image ≡ program
+pub encode-unique : (image : List ℕ) (program : Rules) → WellFormed program → encode program ≡ image → decode image ≡ program
 encode-unique image program good e = ap decode (sym e) ∙ image-decode program good
 
 -- the same for a query against a legal image
@@ -71,7 +71,7 @@ legal-query-short image query words legal =
     omega (arith, ap length (s .0), clause-short (declares-decoded image) 0 (omega arith) (decodeQuery image query) (s .1 .clause))
 
 -- each predicate of a legal image stands in it, with its clauses, their goals and arguments
-pub legal-places : (image : List ℕ) → Words image → checkImage image ≡ Legal → (number : ℕ) (predicate : Pred) → getElem? (decode image) number ≡ some predicate
+pub legal-places : (image : List ℕ) → Words image → checkImage image ≡ Legal → (number : ℕ) (predicate : Predicate) → getElem? (decode image) number ≡ some predicate
     → PredicatePlace image (decode image) number predicate
 legal-places image words legal number predicate e =
     let s = image-sound image words legal in

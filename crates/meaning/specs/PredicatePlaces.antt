@@ -10,7 +10,7 @@ use native.Mathlib.Nat.{add-zero, zero-add, eq-or-lt-of-le, le-of-suc-le-suc}
 use lib.ListN.{length, getElem?, length-append}
 use Rattle.model.specs.Fields.{firstClause}
 use Rattle.model.specs.Image.{predicateWord}
-use Rattle.model.specs.Rules.{Clause, Pred, Program}
+use Rattle.model.specs.Rules.{Clause, Predicate, Rules}
 use Rattle.model.specs.Encoding.{Each, encodeClause, encodeClauses, encodePredicate, encodePredicates, encodedLength, WellFormedClause, WellFormedPred, WellFormed}
 use Rattle.model.specs.Decoding.{clauseNext, clauseFrom, clauseAt}
 use Rattle.meaning.specs.Stands.{Stands, stands-left, stands-right}
@@ -31,12 +31,12 @@ rises f bound up j (suc k) h l =
     ⊎-elim (λ (e : j ≡ k). rw e (up k l)) (λ (less : j < k). omega (arith, rises f bound up j k less (omega arith), up k l)) (eq-or-lt-of-le (le-of-suc-le-suc h))
 
 -- clauses one behind the other: each where the length fields lead, and behind the last the end
-pub record ClausesPlace (image : List ℕ) (program : Program) (headArity at : ℕ) (all : List Clause) : Type 0 where
+pub record ClausesPlace (image : List ℕ) (program : Rules) (headArity at : ℕ) (all : List Clause) : Type 0 where
   pub clauses : (k : ℕ) (clause : Clause) → getElem? all k ≡ some clause → ClausePlace image image program headArity (clauseFrom image at k) clause
   pub grows : (k : ℕ) → k < length all → clauseFrom image at k < clauseFrom image at (suc k)
   pub ends : clauseFrom image at (length all) ≡ at + length (flatMap encodeClause all)
 
-clauses-place : {image : List ℕ} {program : Program} → Declares image program → (headArity : ℕ) → headArity ≤ 15 → (all : List Clause) (at : ℕ) → Each (WellFormedClause program headArity) all
+clauses-place : {image : List ℕ} {program : Rules} → Declares image program → (headArity : ℕ) → headArity ≤ 15 → (all : List Clause) (at : ℕ) → Each (WellFormedClause program headArity) all
     → Stands image at (flatMap encodeClause all) → ClausesPlace image program headArity at all
 unfolding flatMap clauseFrom
 clauses-place known headArity narrow [] at good h = record {
@@ -66,7 +66,7 @@ clauses-place {image} {program} known headArity narrow (one ∷ all) at good h =
         up (suc k) l = rw next (rest .grows k (omega arith))
 
 -- a predicate's word says where its clauses begin, and behind them stand the next one's, or the image ends
-record Begun (image : List ℕ) (program all : Program) (number at k : ℕ) (one : Pred) : Type 0 where
+record Begun (image : List ℕ) (program all : Rules) (number at k : ℕ) (one : Predicate) : Type 0 where
   place : ℕ
   there : 1 + (number + k) < length image
   word : predicateWord image (number + k) ≡ encodePredicate place one
@@ -77,15 +77,15 @@ record Begun (image : List ℕ) (program all : Program) (number at k : ℕ) (one
   next : suc k < length all → firstClause (predicateWord image (number + suc k)) ≡ place + length (encodeClauses one)
   last : suc k ≡ length all → place + length (encodeClauses one) ≡ at + length (flatMap encodeClauses all)
 
-module _ (image : List ℕ) (program : Program) where
-  predicates-first : (all : Program) (number at : ℕ) → Each (WellFormedPred program) all → at ≤ 131071 → Stands image (1 + number) (encodePredicates at all) → 0 < length all
+module _ (image : List ℕ) (program : Rules) where
+  predicates-first : (all : Rules) (number at : ℕ) → Each (WellFormedPred program) all → at ≤ 131071 → Stands image (1 + number) (encodePredicates at all) → 0 < length all
       → firstClause (predicateWord image number) ≡ at
   unfolding encodePredicates
   predicates-first [] number at good h words l = absurd (omega arith)
   predicates-first (one ∷ all) number at good h words l = rw (words .1) (predicate-fields program one at (good .0) h .isFirst)
 
-  predicates-begin : (all : Program) (number at : ℕ) → Each (WellFormedPred program) all → at + length (flatMap encodeClauses all) ≤ 131071 → Stands image (1 + number) (encodePredicates at all)
-      → Stands image at (flatMap encodeClauses all) → (k : ℕ) (one : Pred) → getElem? all k ≡ some one → Begun image program all number at k one
+  predicates-begin : (all : Rules) (number at : ℕ) → Each (WellFormedPred program) all → at + length (flatMap encodeClauses all) ≤ 131071 → Stands image (1 + number) (encodePredicates at all)
+      → Stands image at (flatMap encodeClauses all) → (k : ℕ) (one : Predicate) → getElem? all k ≡ some one → Begun image program all number at k one
   unfolding encodePredicates flatMap
   predicates-begin [] number at good h words stands k one e = let z : _≡_ {A = ℕ} 0 1 = cc in absurd (omega arith)
   predicates-begin (this ∷ all) number at good h words stands zero one e =
@@ -105,7 +105,7 @@ module _ (image : List ℕ) (program : Program) where
         last = λ l. omega (arith, none-left all (omega arith));
       })
     where
-      none-left : (all : Program) → length all ≡ 0 → length (flatMap encodeClauses all) ≡ 0
+      none-left : (all : Rules) → length all ≡ 0 → length (flatMap encodeClauses all) ≡ 0
       none-left [] l = refl
       none-left (two ∷ all) l = absurd (omega arith)
   predicates-begin (this ∷ all) number at good h words stands (suc k) one e =
@@ -129,7 +129,7 @@ module _ (image : List ℕ) (program : Program) where
       }
 
 -- a predicate of a legal image: its word's fields, and its clauses where following the length fields from its first position leads
-pub record PredicatePlace (image : List ℕ) (program : Program) (number : ℕ) (one : Pred) : Type 0 where
+pub record PredicatePlace (image : List ℕ) (program : Rules) (number : ℕ) (one : Predicate) : Type 0 where
   pub there : 1 + number < length image
   pub good : WellFormedPred program one
   pub fields : PredicateFields (predicateWord image number) one (clauseAt image number 0)
@@ -141,7 +141,7 @@ pub record PredicatePlace (image : List ℕ) (program : Program) (number : ℕ) 
   pub next : suc number < length program → clauseAt image number (length (one .clauses)) ≡ clauseAt image (suc number) 0
   pub last : suc number ≡ length program → clauseAt image number (length (one .clauses)) ≡ length image
 
-pub predicate-place : (image : List ℕ) (program : Program) → WellFormed program → length image ≡ encodedLength program → Parts image program → (number : ℕ) (one : Pred)
+pub predicate-place : (image : List ℕ) (program : Rules) → WellFormed program → length image ≡ encodedLength program → Parts image program → (number : ℕ) (one : Predicate)
     → getElem? program number ≡ some one → PredicatePlace image program number one
 unfolding clauseAt clauseFrom encodedLength encodeClauses
 predicate-place image program good size parts number one e =

@@ -9,12 +9,12 @@ use native.Mathlib.Nat.{add-zero}
 use lib.Dec.{eqb}
 use lib.ListN.{length, length-append}
 use borrow.Author.Tests.{eqb-true, eq-eqb}
-use Rattle.model.specs.declared.Kind.the-variants.{Predicate}
+use Rattle.model.specs.declared.Kind.the-variants.{Predicate as PredicateWord}
 use Rattle.model.specs.declared.Fault.the-variants.{FirstClause}
 use Rattle.model.specs.declared.Walk.the-variants.{On}
 use Rattle.model.specs.Fields.{widthsOf, total, below, field, join, arity, sequential, clauseCount, firstClause}
 use Rattle.model.specs.Image.{onward, predicateWord, clauses, predicate, predicates}
-use Rattle.model.specs.Rules.{Pred, Program}
+use Rattle.model.specs.Rules.{Predicate, Rules}
 use Rattle.model.specs.Encoding.{Word, Words, Each, encodeMark, encodeClauses, encodePredicate, encodePredicates, WellFormedPred}
 use Rattle.model.specs.Decoding.{decodeClauses, decodePredicate, decodePredicates}
 use Rattle.words.specs.FieldLaws.{field-join, field-lt, fieldsFrom, join-field}
@@ -24,7 +24,7 @@ use Rattle.meaning.specs.Goals.{Declares}
 use Rattle.meaning.specs.ClauseLists.{length-decodeClauses, clauses-complete, clauses-decode, clauses-sound}
 
 -- the fields of a predicate word
-pub record PredicateFields (word : ℕ) (one : Pred) (at : ℕ) : Type 0 where
+pub record PredicateFields (word : ℕ) (one : Predicate) (at : ℕ) : Type 0 where
   pub isArity : arity word ≡ one .arity
   pub isMark : eqb (sequential word) 1 ≡ one .sequential
   pub isCount : clauseCount word ≡ length (one .clauses)
@@ -46,16 +46,16 @@ mark-encode zero h = refl
 mark-encode (suc zero) h = refl
 mark-encode (suc (suc n)) h = absurd (omega arith)
 
-pub predicate-fields : (program : Program) (one : Pred) (at : ℕ) → WellFormedPred program one → at ≤ 131071 → PredicateFields (encodePredicate at one) one at
+pub predicate-fields : (program : Rules) (one : Predicate) (at : ℕ) → WellFormedPred program one → at ≤ 131071 → PredicateFields (encodePredicate at one) one at
 unfolding widthsOf field below total
 predicate-fields program one at good h =
     let mark = mark-lt (one .sequential) in
-    let read = field-join (widthsOf Predicate) (one .arity ∷ encodeMark (one .sequential) ∷ length (one .clauses) ∷ at ∷ []) (omega (arith, good .arity, good .clauseCount)) in
+    let read = field-join (widthsOf PredicateWord) (one .arity ∷ encodeMark (one .sequential) ∷ length (one .clauses) ∷ at ∷ []) (omega (arith, good .arity, good .clauseCount)) in
     record { isArity = read 0; isMark = ap (λ (n : ℕ). eqb n 1) (read 1) ∙ mark-decode (one .sequential); isCount = read 2; isFirst = read 3 }
 
-predicate-joined : (word : ℕ) → Word word → word ≡ join (widthsOf Predicate) (arity word ∷ sequential word ∷ clauseCount word ∷ firstClause word ∷ [])
+predicate-joined : (word : ℕ) → Word word → word ≡ join (widthsOf PredicateWord) (arity word ∷ sequential word ∷ clauseCount word ∷ firstClause word ∷ [])
 unfolding widthsOf field below total fieldsFrom
-predicate-joined word h = sym (join-field (widthsOf Predicate) word h)
+predicate-joined word h = sym (join-field (widthsOf PredicateWord) word h)
 
 -- a predicate word is the encoding's, of the predicate that it decodes to
 pub predicate-word : (image : List ℕ) (number at : ℕ) → Word (predicateWord image number) → firstClause (predicateWord image number) ≡ at
@@ -63,19 +63,19 @@ pub predicate-word : (image : List ℕ) (number at : ℕ) → Word (predicateWor
 unfolding decodePredicate widthsOf
 predicate-word image number at h e =
     let word = predicateWord image number in
-    let mark = mark-encode (sequential word) (field-lt (widthsOf Predicate) word 1) in
+    let mark = mark-encode (sequential word) (field-lt (widthsOf PredicateWord) word 1) in
     let count = length-decodeClauses (clauseCount word) image (arity word) (firstClause word) in
     rw (mark, count, ← e) (predicate-joined word h)
 
-module _ {image : List ℕ} {program : Program} (known : Declares image program) where
-  pub predicate-complete : (one : Pred) (number at : ℕ) → WellFormedPred program one → at ≤ 131071 → predicateWord image number ≡ encodePredicate at one
+module _ {image : List ℕ} {program : Rules} (known : Declares image program) where
+  pub predicate-complete : (one : Predicate) (number at : ℕ) → WellFormedPred program one → at ≤ 131071 → predicateWord image number ≡ encodePredicate at one
       → Stands image at (encodeClauses one) → predicate image number at 0 ≡ On (at + length (encodeClauses one)) 0
   unfolding predicate encodeClauses
   predicate-complete one number at good h word stands =
       let f : PredicateFields (predicateWord image number) one at = rw word (predicate-fields program one at good h) in
       rw (f .isFirst, eq-eqb at at refl, f .isCount, f .isArity) (clauses-complete known (one .arity) (good .arity) (one .clauses) at (good .clauses) stands)
 
-  pub predicate-decode : (one : Pred) (number at : ℕ) → WellFormedPred program one → at ≤ 131071 → predicateWord image number ≡ encodePredicate at one
+  pub predicate-decode : (one : Predicate) (number at : ℕ) → WellFormedPred program one → at ≤ 131071 → predicateWord image number ≡ encodePredicate at one
       → Stands image at (encodeClauses one) → decodePredicate image number ≡ one
   unfolding decodePredicate encodeClauses
   predicate-decode one number at good h word stands =
@@ -85,7 +85,7 @@ module _ {image : List ℕ} {program : Program} (known : Declares image program)
       λ i. record { arity = f .isArity i; sequential = f .isMark i; clauses = all i }
 
   -- the walk finds no fault where the encoding of well-formed predicates stands: their words from predicate `number` on, their clauses at `at`
-  pub predicates-complete : (all : Program) (number at : ℕ) → Each (WellFormedPred program) all → at + length (flatMap encodeClauses all) ≤ 131071
+  pub predicates-complete : (all : Rules) (number at : ℕ) → Each (WellFormedPred program) all → at + length (flatMap encodeClauses all) ≤ 131071
       → Stands image (1 + number) (encodePredicates at all) → Stands image at (flatMap encodeClauses all) → predicates (length all) image number at 0 ≡ On (at + length (flatMap encodeClauses all)) 0
   unfolding predicates encodePredicates flatMap
   predicates-complete [] number at good h words stands = rw add-zero refl
@@ -99,20 +99,20 @@ module _ {image : List ℕ} {program : Program} (known : Declares image program)
       let e : at + length (encodeClauses one) + length (flatMap encodeClauses all) ≡ at + length (encodeClauses one ++ flatMap encodeClauses all) = omega arith in
       ap (onward (predicates (length all) image (suc number))) first ∙ rest ∙ ap (λ (n : ℕ). On n 0) e
 
-  pub predicates-decode : (all : Program) (number at : ℕ) → Each (WellFormedPred program) all → at + length (flatMap encodeClauses all) ≤ 131071
+  pub predicates-decode : (all : Rules) (number at : ℕ) → Each (WellFormedPred program) all → at + length (flatMap encodeClauses all) ≤ 131071
       → Stands image (1 + number) (encodePredicates at all) → Stands image at (flatMap encodeClauses all) → decodePredicates (length all) image number ≡ all
   unfolding decodePredicates encodePredicates flatMap
   predicates-decode [] number at good h words stands = refl
   predicates-decode (one ∷ all) number at good h words stands =
       let sum = length-append (encodeClauses one) (flatMap encodeClauses all) in
       let shift : 1 + number + 1 ≡ 1 + suc number = omega arith in
-      ap₂ (λ (d : Pred) (l : Program). d ∷ l)
+      ap₂ (λ (d : Predicate) (l : Rules). d ∷ l)
       (predicate-decode one number at (good .0) (omega arith) (words .1) (stands-left image (encodeClauses one) (flatMap encodeClauses all) at stands))
       (predicates-decode all (suc number) (at + length (encodeClauses one)) (good .1) (omega arith) (rw shift at (words .2))
       (stands-right image (encodeClauses one) (flatMap encodeClauses all) at stands))
 
   -- where the walk found none at a predicate, its word and clauses are the encoding of the predicate that the words decode to, and it is well formed
-  pub record PredicateStands (one : Pred) (number at end after : ℕ) : Type 0 where
+  pub record PredicateStands (one : Predicate) (number at end after : ℕ) : Type 0 where
     pub word : predicateWord image number ≡ encodePredicate at one
     pub stands : Stands image at (encodeClauses one)
     pub ends : end ≡ at + length (encodeClauses one)
@@ -126,7 +126,7 @@ module _ {image : List ℕ} {program : Program} (known : Declares image program)
       let word = predicateWord image number in
       let f = cond-held (eqb (firstClause word) at) FirstClause (1 + number) e in
       let first = eqb-true (firstClause word) at (f .0) in
-      let narrow : arity word ≤ 15 = omega (arith, field-lt (widthsOf Predicate) word 0) in
+      let narrow : arity word ≤ 15 = omega (arith, field-lt (widthsOf PredicateWord) word 0) in
       let all = clauses-sound known (arity word) narrow small (clauseCount word) (firstClause word) (rw (← first) at (f .1)) in
       record {
         word = predicate-word image number at (small (1 + number)) first;
@@ -135,13 +135,13 @@ module _ {image : List ℕ} {program : Program} (known : Declares image program)
         counted = all .counted;
         good = record {
           arity = narrow;
-          clauseCount = omega (arith, field-lt (widthsOf Predicate) word 2, length-decodeClauses (clauseCount word) image (arity word) (firstClause word));
+          clauseCount = omega (arith, field-lt (widthsOf PredicateWord) word 2, length-decodeClauses (clauseCount word) image (arity word) (firstClause word));
           clauses = all .good;
         };
       }
 
   -- the same for all predicates from one on
-  pub record PredicatesStand (all : Program) (number at end after : ℕ) : Type 0 where
+  pub record PredicatesStand (all : Rules) (number at end after : ℕ) : Type 0 where
     pub words : Stands image (1 + number) (encodePredicates at all)
     pub stands : Stands image at (flatMap encodeClauses all)
     pub ends : end ≡ at + length (flatMap encodeClauses all)

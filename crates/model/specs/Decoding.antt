@@ -7,7 +7,7 @@ use lib.Dec.{eqb}
 use lib.ListN.{getD}
 use Rattle.model.specs.Fields.{predicateCount, arity, sequential, clauseCount, firstClause, op, variables, goalCount, clauseLength, variableNumber, constant, goalPredicate}
 use Rattle.model.specs.Image.{predicateWord}
-use Rattle.model.specs.Rules.{Arg, con, var, Goal, call, Clause, Pred, Program}
+use Rattle.model.specs.Rules.{Argument, con, var, Goal, call, Clause, Predicate, Rules}
 
 -- the place after a goal: its word and as many arguments as its predicate's arity are passed
 unfoldable pub goalNext : List ℕ → List ℕ → ℕ → ℕ
@@ -35,10 +35,10 @@ clauseFrom image at (suc clauses) = clauseFrom image (clauseNext image at) claus
 unfoldable pub clauseAt : List ℕ → ℕ → ℕ → ℕ
 clauseAt image predicate clause = clauseFrom image (firstClause (predicateWord image predicate)) clause
 
-unfoldable pub decodeArg : ℕ → Arg
+unfoldable pub decodeArg : ℕ → Argument
 decodeArg word = cond (eqb (op word) 1) (var (variableNumber word)) (con (constant word))
 
-unfoldable pub decodeArgs : ℕ → List ℕ → ℕ → List Arg
+unfoldable pub decodeArgs : ℕ → List ℕ → ℕ → List Argument
 decodeArgs zero words at = []
 decodeArgs (suc count) words at = decodeArg (getD words at 0) ∷ decodeArgs count words (at + 1)
 
@@ -52,7 +52,7 @@ decodeGoals (suc count) image words at = decodeGoal image words at ∷ decodeGoa
 
 unfoldable pub decodeClause : List ℕ → List ℕ → ℕ → ℕ → Clause
 decodeClause image words headArity at = record {
-  vars = variables (getD words at 0);
+  variables = variables (getD words at 0);
   head = decodeArgs headArity words (at + 1);
   goals = decodeGoals (goalCount (getD words at 0)) image words (at + 1 + headArity);
 }
@@ -61,7 +61,7 @@ unfoldable pub decodeClauses : ℕ → List ℕ → ℕ → ℕ → List Clause
 decodeClauses zero image headArity at = []
 decodeClauses (suc count) image headArity at = decodeClause image image headArity at ∷ decodeClauses count image headArity (clauseNext image at)
 
-unfoldable pub decodePredicate : List ℕ → ℕ → Pred
+unfoldable pub decodePredicate : List ℕ → ℕ → Predicate
 decodePredicate image number = record {
   arity = arity (predicateWord image number);
   sequential = eqb (sequential (predicateWord image number)) 1;
@@ -69,11 +69,11 @@ decodePredicate image number = record {
       decodeClauses (clauseCount (predicateWord image number)) image (arity (predicateWord image number)) (firstClause (predicateWord image number));
 }
 
-unfoldable pub decodePredicates : ℕ → List ℕ → ℕ → Program
+unfoldable pub decodePredicates : ℕ → List ℕ → ℕ → Rules
 decodePredicates zero image number = []
 decodePredicates (suc count) image number = decodePredicate image number ∷ decodePredicates count image (suc number)
 
-unfoldable pub decode : List ℕ → Program
+unfoldable pub decode : List ℕ → Rules
 decode image = decodePredicates (predicateCount (getD image 0 0)) image 0
 
 unfoldable pub decodeQuery : List ℕ → List ℕ → Clause

@@ -5,9 +5,9 @@ use mathlib.Core.List.{List, [], _∷_, _++_, map, flatMap}
 use mathlib.Core.Path.{_≡_}
 use Prim.Native.Nat.{ℕ, zero, suc, _+_, _^_, _≤_, _<_, max}
 use lib.ListN.{length, getD}
-use Rattle.model.specs.declared.Kind.the-variants.{Header, Predicate, Clause as ClauseWord, Var, Con, Goal as GoalWord}
+use Rattle.model.specs.declared.Kind.the-variants.{Header, Predicate as PredicateWord, Clause as ClauseWord, Var, Con, Goal as GoalWord}
 use Rattle.model.specs.Fields.{widthsOf, join}
-use Rattle.model.specs.Rules.{Arg, con, var, Goal, call, Clause, Pred, Program}
+use Rattle.model.specs.Rules.{Argument, con, var, Goal, call, Clause, Predicate, Rules}
 
 -- "words have 32 bits"
 abbrev pub Word : ℕ → Type 0
@@ -18,7 +18,7 @@ abbrev pub Words : List ℕ → Type 0
 Words words = (i : ℕ) → Word (getD words i 0)
 
 -- VAR: op 1, zero, number. CON: op 2, constant
-unfoldable pub encodeArg : Arg → ℕ
+unfoldable pub encodeArg : Argument → ℕ
 encodeArg (con constant) = join (widthsOf Con) (2 ∷ constant ∷ [])
 encodeArg (var number) = join (widthsOf Var) (1 ∷ 0 ∷ number ∷ [])
 
@@ -37,9 +37,9 @@ encodeBody clause = map encodeArg (clause .head) ++ flatMap encodeGoal (clause .
 -- CLAUSE: op 8, variables, goals, length in words with this one
 unfoldable pub encodeClause : Clause → List ℕ
 encodeClause clause =
-    join (widthsOf ClauseWord) (8 ∷ clause .vars ∷ length (clause .goals) ∷ suc (length (encodeBody clause)) ∷ []) ∷ encodeBody clause
+    join (widthsOf ClauseWord) (8 ∷ clause .variables ∷ length (clause .goals) ∷ suc (length (encodeBody clause)) ∷ []) ∷ encodeBody clause
 
-unfoldable pub encodeClauses : Pred → List ℕ
+unfoldable pub encodeClauses : Predicate → List ℕ
 encodeClauses predicate = flatMap encodeClause (predicate .clauses)
 
 unfoldable pub encodeMark : Bool → ℕ
@@ -47,21 +47,21 @@ encodeMark true = 1
 encodeMark false = 0
 
 -- predicate word: arity, sequential, clause count, position of first clause
-abbrev pub encodePredicate : ℕ → Pred → ℕ
+abbrev pub encodePredicate : ℕ → Predicate → ℕ
 encodePredicate at predicate =
-    join (widthsOf Predicate) (predicate .arity ∷ encodeMark (predicate .sequential) ∷ length (predicate .clauses) ∷ at ∷ [])
+    join (widthsOf PredicateWord) (predicate .arity ∷ encodeMark (predicate .sequential) ∷ length (predicate .clauses) ∷ at ∷ [])
 
 -- the first predicate's clauses stand at the position given, the next one's behind them. "A predicate may have no clauses; its position is then where they would stand"
-unfoldable pub encodePredicates : ℕ → Program → List ℕ
+unfoldable pub encodePredicates : ℕ → Rules → List ℕ
 encodePredicates at [] = []
 encodePredicates at (predicate ∷ rest) = encodePredicate at predicate ∷ encodePredicates (at + length (encodeClauses predicate)) rest
 
 -- the words of an image: the header, the predicate words, all clauses
-unfoldable pub encodedLength : Program → ℕ
+unfoldable pub encodedLength : Rules → ℕ
 encodedLength program = 1 + length program + length (flatMap encodeClauses program)
 
 -- header: edition 1, predicate count, zero, image length. "After the header come P predicate words, then all clauses, predicate by predicate"
-unfoldable pub encode : Program → List ℕ
+unfoldable pub encode : Rules → List ℕ
 encode program =
     join (widthsOf Header) (1 ∷ length program ∷ 0 ∷ encodedLength program ∷ [])
     ∷ (encodePredicates (1 + length program) program ++ flatMap encodeClauses program)
@@ -76,61 +76,61 @@ Each Good [] = Unit {0}
 Each Good (element ∷ rest) = Good element × Each Good rest
 
 -- CON: "constant 28". "Variables are numbered 0, 1, .. by first appearance": where so many were seen before, a variable is one of them or the next
-abbrev pub WellFormedArg : ℕ → Arg → Type 0
+abbrev pub WellFormedArg : ℕ → Argument → Type 0
 WellFormedArg seen (con constant) = constant < 2 ^ 28
 WellFormedArg seen (var number) = number ≤ seen
 
 -- how many variables were seen, with this argument
-unfoldable pub seenWith : ℕ → Arg → ℕ
+unfoldable pub seenWith : ℕ → Argument → ℕ
 seenWith seen (con constant) = seen
 seenWith seen (var number) = max seen (suc number)
 
-unfoldable pub seenAfter : ℕ → List Arg → ℕ
+unfoldable pub seenAfter : ℕ → List Argument → ℕ
 seenAfter seen [] = seen
 seenAfter seen (arg ∷ args) = seenAfter (seenWith seen arg) args
 
-abbrev pub WellFormedArgs : ℕ → List Arg → Type 0
+abbrev pub WellFormedArgs : ℕ → List Argument → Type 0
 WellFormedArgs seen [] = Unit {0}
 WellFormedArgs seen (arg ∷ args) = WellFormedArg seen arg × WellFormedArgs (seenWith seen arg) args
 
-unfoldable pub goalArgs : Goal → List Arg
+unfoldable pub goalArgs : Goal → List Argument
 goalArgs (call predicate args) = args
 
 -- the arguments of a clause in the order of their words
-unfoldable pub clauseArgs : Clause → List Arg
+unfoldable pub clauseArgs : Clause → List Argument
 clauseArgs clause = clause .head ++ flatMap goalArgs (clause .goals)
 
 -- the arity of a predicate by its number; 0 where there is none
-unfoldable pub arityOf : Program → ℕ → ℕ
+unfoldable pub arityOf : Rules → ℕ → ℕ
 arityOf [] number = 0
 arityOf (predicate ∷ rest) zero = predicate .arity
 arityOf (predicate ∷ rest) (suc number) = arityOf rest number
 
 -- "14 predicate not below P"; a goal has as many arguments as its predicate's arity
-abbrev pub WellFormedGoal : Program → Goal → Type 0
+abbrev pub WellFormedGoal : Rules → Goal → Type 0
 WellFormedGoal program (call predicate args) = (predicate < length program) × (length args ≡ arityOf program predicate)
 
-pub record WellFormedClause (program : Program) (arity : ℕ) (clause : Clause) : Type 0 where
+pub record WellFormedClause (program : Rules) (arity : ℕ) (clause : Clause) : Type 0 where
   -- "its head arguments": as many as its predicate's arity
   pub heads : length (clause .head) ≡ arity
   -- "9 variables over 32"
-  pub variables : clause .vars ≤ 32
+  pub variables : clause .variables ≤ 32
   -- "10 goals over 16"
   pub goalCount : length (clause .goals) ≤ 16
   pub calls : Each (WellFormedGoal program) (clause .goals)
   -- "Variables are numbered 0, 1, .. by first appearance"
   pub numbered : WellFormedArgs 0 (clauseArgs clause)
   -- "12 variable number not below the declared count", "15 a declared variable never appears": as many are declared as appear
-  pub declared : seenAfter 0 (clauseArgs clause) ≡ clause .vars
+  pub declared : seenAfter 0 (clauseArgs clause) ≡ clause .variables
 
-pub record WellFormedPred (program : Program) (predicate : Pred) : Type 0 where
+pub record WellFormedPred (program : Rules) (predicate : Predicate) : Type 0 where
   -- predicate word: "arity 4"
   pub arity : predicate .arity ≤ 15
   -- predicate word: "clause count 10"
   pub clauseCount : length (predicate .clauses) ≤ 1023
   pub clauses : Each (WellFormedClause program (predicate .arity)) (predicate .clauses)
 
-pub record WellFormed (program : Program) : Type 0 where
+pub record WellFormed (program : Rules) : Type 0 where
   -- "3 P is 0"
   pub nonempty : 1 ≤ length program
   -- header: "predicate count P 10"
@@ -140,6 +140,6 @@ pub record WellFormed (program : Program) : Type 0 where
   pub imageLength : length (encode program) ≤ 131071
 
 -- "A query is one clause of arity 0, alone, with 1 to 16 goals"
-pub record WellFormedQuery (program : Program) (query : Clause) : Type 0 where
+pub record WellFormedQuery (program : Rules) (query : Clause) : Type 0 where
   pub nonempty : 1 ≤ length (query .goals)
   pub clause : WellFormedClause program 0 query

@@ -6,22 +6,22 @@ use mathlib.Core.List.{[], _∷_, flatMap}
 use Prim.Native.Nat.{ℕ, _<_}
 use native.Mathlib.Omega.{arith}
 use Rattle.model.specs.Fields.{widthsOf, total, below, field, join}
-use Rattle.model.specs.Rules.{con, var, call, Clause, Pred, Program}
+use Rattle.model.specs.Rules.{con, var, call, Clause, Predicate, Rules}
 use Rattle.model.specs.Encoding.{encodeArg, encodeGoal, encodeBody, encodeClause, encodeClauses, encodeMark, encodePredicates, encodedLength, encode, encodeQuery, seenWith, seenAfter, goalArgs, clauseArgs, arityOf, WellFormedArg, WellFormedGoal, WellFormedClause, WellFormedPred, WellFormed, WellFormedQuery}
 use Rattle.model.specs.Decoding.{goalNext, clauseNext, decodeArg, decodeArgs, decodeGoal, decodeGoals, decodeClause, decodeClauses, decodePredicate, decodePredicates, decode, decodeQuery}
 use Rattle.model.specs.Examples.{deskImage}
 
 -- a fact with one constant
 abbrev fact : ℕ → Clause
-fact constant = record { vars = 0; head = con constant ∷ []; goals = [] }
+fact constant = record { variables = 0; head = con constant ∷ []; goals = [] }
 
 -- p(5). p(6).
-abbrev pub deskRules : Program
+abbrev pub deskRules : Rules
 deskRules = record { arity = 1; sequential = false; clauses = fact 5 ∷ fact 6 ∷ [] } ∷ []
 
 -- ?- p(X).
 abbrev pub deskQuery : Clause
-deskQuery = record { vars = 1; head = []; goals = call 0 (var 0 ∷ []) ∷ [] }
+deskQuery = record { variables = 1; head = []; goals = call 0 (var 0 ∷ []) ∷ [] }
 
 pub desk-encodes : encode deskRules ≡ deskImage
 unfolding encode encodedLength encodePredicates encodeMark encodeClauses encodeClause encodeBody encodeGoal encodeArg flatMap join widthsOf total
@@ -60,12 +60,12 @@ desk-query-formed = record {
 }
 
 -- a predicate without clauses, of some arity
-abbrev bare : ℕ → Pred
+abbrev bare : ℕ → Predicate
 bare arity = record { arity = arity; sequential = false; clauses = [] }
 
 -- a clause without arguments and goals, of so many variables
 abbrev empty : ℕ → Clause
-empty vars = record { vars = vars; head = []; goals = [] }
+empty own = record { variables = own; head = []; goals = [] }
 
 -- what a well-formed rule set does not have
 pub off-by-one :

@@ -53,3 +53,40 @@ pub enum Verdict {
     Legal,
     Refused(Refusal, usize),
 }
+
+// A variable's number: it names a slot of the binding arrays, and repeats on sibling branches.
+pub struct VarNo(pub u32);
+
+// A cell's address: it names a cell, and does not repeat.
+pub struct CellAddr(pub u32);
+
+// What dereferencing answers.
+pub enum Found {
+    Unbound(VarNo, CellAddr),
+    Constant(u32),
+}
+
+// Where a node's first goal stands: the slot whose clause holds it, and its place there.
+pub enum FirstGoal {
+    NoGoal,
+    Goal(u32, u32),
+}
+
+// How unifying a pair of arguments, or a head, ends, and how many trail entries the child has then.
+pub enum Unified {
+    Yes(u32),
+    No(u32),
+}
+
+// What a step or a run did. Document 01 gives the numbers in brackets.
+pub enum Outcome {
+    Tried,
+    Extended,
+    Answer,
+    Back,
+    Left,
+    Wait,
+    Finished,
+    Spent,
+    Full,
+}

@@ -1,0 +1,4 @@
+pub mod Maps
+pub mod Bounded
+pub mod ClausePaths
+pub mod Pigeon

@@ -1,0 +1,1 @@
+// Facts about the definitions of `model`; all of them stand in the specifications.
