@@ -5,8 +5,8 @@ use mathlib.Core.Bool.{Bool, true, false, _&&_}
 use mathlib.Core.List.{List, [], _∷_}
 use Prim.Native.Nat.{ℕ, zero, suc, _+_, _*_, _/_, _%_, _^_, _≤_, _<_}
 use native.Mathlib.Omega.{arith}
-use native.Mathlib.Nat.{eq-or-lt-of-le, le-of-suc-le-suc, not-suc-le-zero, le-trans, one-mul, mod-le, mod-one, mod-eq-of-lt}
-use lib.Pow.{pow-lt, shr-le}
+use native.Mathlib.Nat.{eq-or-lt-of-le, le-of-suc-le-suc, not-suc-le-zero, le-trans, one-mul, mod-le, mod-one, mod-eq-of-lt, mod-lt, lt-of-lt-of-le, zero-mul}
+use lib.Pow.{pow-lt, pow-pos, pow-mono, shl-lt, shr-le}
 use lib.Dec.{T, eqb, eqb→eq, lit<, lit≤}
 use lib.ListN.{length, getD, List·getD-eq-default}
 use Rattle.model.specs.declared.Kind.{Kind}
@@ -110,3 +110,17 @@ pub shift-reads : (kind : Kind) (word i shift bits : ℕ) → shift ≡ below (w
     → word / 2 ^ shift % (1 * 2 ^ bits % 18446744073709551616) ≡ field (widthsOf kind) word i
 unfolding field
 shift-reads kind word i shift bits s b = rw (shl-one bits (omega (arith, within kind i)), s, b) refl
+
+-- what a field holds, cut and shifted into its place, is within the word
+pub placed-lt : (kind : Kind) (value i : ℕ) → value % 2 ^ getD (widthsOf kind) i 0 * 2 ^ below (widthsOf kind) i < 2 ^ 32
+placed-lt kind value i =
+    lt-of-lt-of-le (shl-lt (getD (widthsOf kind) i 0) (below (widthsOf kind) i) (mod-lt value (pow-pos (getD (widthsOf kind) i 0)))) (pow-mono (within kind i))
+
+-- a remainder and a shift place it
+pub shift-places : (kind : Kind) (value i shift bits : ℕ) → shift ≡ below (widthsOf kind) i → bits ≡ getD (widthsOf kind) i 0
+    → value % (1 * 2 ^ bits % 18446744073709551616) * 2 ^ shift % 18446744073709551616 ≡ value % 2 ^ getD (widthsOf kind) i 0 * 2 ^ below (widthsOf kind) i
+shift-places kind value i shift bits s b =
+    rw (shl-one bits (omega (arith, within kind i)), s, b) (mod-eq-of-lt (lt-of-lt-of-le (placed-lt kind value i) (pow-mono {i = 32} {j = 64} (omega arith))))
+
+pub placed-past : (kind : Kind) (value i : ℕ) → 6 ≤ i → 0 ≡ value % 2 ^ getD (widthsOf kind) i 0 * 2 ^ below (widthsOf kind) i
+placed-past kind value i h = rw (width-past kind i h, mod-one value) (sym (zero-mul (2 ^ below (widthsOf kind) i)))

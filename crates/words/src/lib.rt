@@ -1,8 +1,8 @@
 // Reading the fields of a word. The field widths stand once, in `WIDTHS`.
 use model::Kind;
 ghost use mathlib.Core.Path.{_≡_};
-ghost use Prim.Native.Nat.{_+_, _≤_, _<_};
-ghost use lib.ListN.{getD};
+ghost use Prim.Native.Nat.{_+_, _*_, _%_, _^_, _≤_, _<_};
+ghost use lib.ListN.{getD, set};
 ghost use Rattle.model.specs.Fields.{widthsOf, below, field, edition, predicateCount, headerZero, imageLength, arity, clauseCount, firstClause, op, variables, goalCount, clauseLength, variableZero, variableNumber, goalPredicate, goalZero};
 ghost use Rattle.words.specs.Table.{rowOf};
 
@@ -81,6 +81,27 @@ pub fn word_at(words: &[u32], at: usize) -> u32
     ensures { λ r. ⌜ r ≡ getD (now (words .entry)) at 0 ⌝ }
 {
     if at < words.len() { words[at] } else { 0 }
+}
+
+// The word at a position is set; past the end nothing is.
+pub fn put(words: &mut [u32], at: usize, word: u32)
+    ensures { λ _. ⌜ now (words .exit) ≡ set (now (words .entry)) at word ⌝ }
+{
+    if at < words.len() {
+        words[at] = word;
+    }
+}
+
+// A value cut to its field's width, at the field's place.
+pub fn placed(value: u32, kind: Kind, i: usize) -> u32
+    ensures { λ r. ⌜ r ≡ value % 2 ^ getD (widthsOf kind) i 0 * 2 ^ below (widthsOf kind) i ⌝ }
+{
+    if 6 <= i {
+        return 0;
+    }
+    let shift = low(kind, i);
+    let bits = width(kind, i);
+    ((value as u64 % (1u64 << bits)) << shift) as u32
 }
 
 // The fields of the rule image's words, by their names in document 01.
