@@ -23,16 +23,18 @@ cellAddr address = record { 0 = address }
 abbrev pub says : List ℕ → List ℕ → ℕ → ℕ
 says array cells address = cond (eqb (tag (getD cells address 0)) 0) (getD array (value (getD cells address 0)) 0) (getD cells address 0)
 
--- "an array word 0 means unbound and nothing else". A REF is to a lower number, so there are at most as many as numbers;
+-- "an array word 0 means unbound and nothing else"
+unfoldable pub foundSaid : List ℕ → ℕ → ℕ → Found
+foundSaid cells said address = cond (eqb said 0) (Unbound (varNo (value (getD cells address 0))) (cellAddr address)) (Constant (value said))
+
+-- A REF is to a lower number, so there are at most as many as numbers;
 -- past them there would be no answer, and sound memory does not come there
 unfoldable pub dereference : ℕ → List ℕ → List ℕ → ℕ → Found
 dereference zero array cells address = Constant 0
 dereference (suc most) array cells address =
     elim (eqb (tag (says array cells address)) 1) [
       | true ↦ dereference most array cells (value (says array cells address))
-      | false ↦
-          cond (eqb (says array cells address) 0) (Unbound (varNo (value (getD cells address 0))) (cellAddr address))
-          (Constant (value (says array cells address)))
+      | false ↦ foundSaid cells (says array cells address) address
     ]
 
 -- an argument word of a slot's clause, dereferenced

@@ -3,7 +3,8 @@ use model::Kind;
 ghost use mathlib.Core.Path.{_≡_};
 ghost use Prim.Native.Nat.{_+_, _*_, _%_, _^_, _≤_, _<_};
 ghost use lib.ListN.{getD, set};
-ghost use Rattle.model.specs.Fields.{widthsOf, below, field, edition, predicateCount, headerZero, imageLength, arity, clauseCount, firstClause, op, variables, goalCount, clauseLength, variableZero, variableNumber, goalPredicate, goalZero};
+ghost use Rattle.model.specs.Fields.{widthsOf, below, field, edition, predicateCount, headerZero, imageLength, arity, clauseCount, firstClause, op, variables, goalCount, clauseLength, variableZero, variableNumber, goalPredicate, goalZero, constant, sequential};
+ghost use Rattle.model.specs.Memory.{tag, value};
 ghost use Rattle.words.specs.Table.{rowOf};
 
 // The widths of every kind of word, most significant first, a row a kind.
@@ -193,4 +194,29 @@ pub fn goal_zero(word: u32) -> u32
     ensures { λ r. ⌜ r ≡ goalZero word ⌝ }
 {
     read(word, Kind::Goal, 2)
+}
+
+pub fn constant(word: u32) -> u32
+    ensures { λ r. ⌜ r ≡ constant word ⌝ }
+{
+    read(word, Kind::Con, 1)
+}
+
+pub fn sequential(word: u32) -> u32
+    ensures { λ r. ⌜ r ≡ sequential word ⌝ }
+{
+    read(word, Kind::Predicate, 1)
+}
+
+// The two fields of a value.
+pub fn tag(word: u32) -> u32
+    ensures { λ r. ⌜ r ≡ tag word ⌝ }
+{
+    read(word, Kind::Value, 0)
+}
+
+pub fn value(word: u32) -> u32
+    ensures { λ r. ⌜ r ≡ value word ⌝ }
+{
+    read(word, Kind::Value, 1)
 }
