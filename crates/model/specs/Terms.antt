@@ -8,6 +8,8 @@ use Rattle.model.specs.declared.VarNo.{VarNo}
 use Rattle.model.specs.declared.CellAddr.{CellAddr}
 use Rattle.model.specs.declared.Found.{Found}
 use Rattle.model.specs.declared.Found.the-variants.{Unbound, Constant}
+use Rattle.model.specs.declared.Pairing.{Pairing}
+use Rattle.model.specs.declared.Pairing.the-variants.{Nothing, Clash, Binds}
 use Rattle.model.specs.declared.Unified.{Unified}
 use Rattle.model.specs.declared.Unified.the-variants.{Yes, No}
 use Rattle.model.specs.Fields.{op, variableNumber, constant}
@@ -62,19 +64,21 @@ bind child childBase array cells trail count number address word =
 
 -- "one unbound variable with itself binds nothing; constants must be equal; an unbound variable takes the constant;
 -- of two, the one with the higher number takes a REF to the other"
-unfoldable pub unifyFound : ℕ → ℕ → List ℕ → List ℕ → List ℕ → ℕ → Found → Found → Store
-unifyFound child childBase array cells trail count (Constant a) (Constant b) = store array cells trail (cond (eqb a b) (Yes count) (No count))
-unifyFound child childBase array cells trail count (Constant a) (Unbound number address) = bind child childBase array cells trail count number address (conWord a)
-unifyFound child childBase array cells trail count (Unbound number address) (Constant b) = bind child childBase array cells trail count number address (conWord b)
-unifyFound child childBase array cells trail count (Unbound n a) (Unbound m b) =
-    cond (eqb (n .0) (m .0)) (store array cells trail (Yes count))
-    (cond (ltb (n .0) (m .0)) (bind child childBase array cells trail count m b (refWord (a .0)))
-    (bind child childBase array cells trail count n a (refWord (b .0))))
+unfoldable pub pairing : Found → Found → Pairing
+pairing (Constant a) (Constant b) = cond (eqb a b) Nothing Clash
+pairing (Constant a) (Unbound number address) = Binds number address (conWord a)
+pairing (Unbound number address) (Constant b) = Binds number address (conWord b)
+pairing (Unbound n a) (Unbound m b) = cond (eqb (n .0) (m .0)) Nothing (cond (ltb (n .0) (m .0)) (Binds m b (refWord (a .0))) (Binds n a (refWord (b .0))))
+
+unfoldable pub unifyPair : ℕ → ℕ → List ℕ → List ℕ → List ℕ → ℕ → Pairing → Store
+unifyPair child childBase array cells trail count Nothing = store array cells trail (Yes count)
+unifyPair child childBase array cells trail count Clash = store array cells trail (No count)
+unifyPair child childBase array cells trail count (Binds number address word) = bind child childBase array cells trail count number address word
 
 -- a head argument with a goal's argument, both dereferenced
 unfoldable pub unifyWords : ℕ → ℕ → ℕ → ℕ → ℕ → List ℕ → List ℕ → List ℕ → ℕ → Store
 unifyWords child childBase slot head goal array cells trail count =
-    unifyFound child childBase array cells trail count (argumentOf array cells child head) (argumentOf array cells slot goal)
+    unifyPair child childBase array cells trail count (pairing (argumentOf array cells child head) (argumentOf array cells slot goal))
 
 -- the rest of a head is unified where the arguments before it were
 abbrev pub onwards : (List ℕ → List ℕ → List ℕ → ℕ → Store) → List ℕ → List ℕ → List ℕ → Unified → Store

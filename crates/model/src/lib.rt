@@ -72,6 +72,13 @@ pub enum FirstGoal {
     Goal(u32, u32),
 }
 
+// What unifying two dereferenced arguments comes to: nothing to do, a clash of constants, or a binding of a variable to a word.
+pub enum Pairing {
+    Nothing,
+    Clash,
+    Binds(VarNo, CellAddr, u32),
+}
+
 // How unifying a pair of arguments, or a head, ends, and how many trail entries the child has then.
 pub enum Unified {
     Yes(u32),

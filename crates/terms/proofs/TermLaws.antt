@@ -3,12 +3,15 @@ use mathlib.Core.Path.{_≡_, refl}
 use mathlib.Core.List.{List}
 use Prim.Native.Nat.{ℕ, zero, suc, _-_, _≤_, _<_}
 use native.Mathlib.Omega.{arith}
-use borrow.Author.Tests.{eq-eqb, ne-eqb}
+use borrow.Author.Tests.{eq-eqb, ne-eqb, lt-ltb, le-ltb}
 use Rattle.model.specs.declared.Kind.the-variants.{Var}
-use Rattle.model.specs.declared.Found.the-variants.{Constant}
+use Rattle.model.specs.declared.Found.the-variants.{Unbound, Constant}
 use Rattle.model.specs.Fields.{widthsOf, variableNumber}
-use Rattle.model.specs.Memory.{tag, value}
-use Rattle.model.specs.Terms.{says, foundSaid, dereference}
+use Rattle.model.specs.declared.VarNo.{VarNo}
+use Rattle.model.specs.declared.CellAddr.{CellAddr}
+use Rattle.model.specs.declared.Pairing.the-variants.{Nothing, Clash, Binds}
+use Rattle.model.specs.Memory.{tag, value, refWord}
+use Rattle.model.specs.Terms.{says, foundSaid, dereference, pairing}
 use Rattle.words.specs.FieldLaws.{field-lt}
 
 module _ (array cells : List ℕ) where
@@ -31,3 +34,25 @@ module _ (array cells : List ℕ) where
 pub variableNumber-lt : (word : ℕ) → variableNumber word < 64
 unfolding widthsOf
 variableNumber-lt word = field-lt (widthsOf Var) word 2
+
+pub pairing-equal : (a b : ℕ) → a ≡ b → pairing (Constant a) (Constant b) ≡ Nothing
+unfolding pairing
+pairing-equal a b e = simp (eq-eqb a b e)
+
+pub pairing-clash : (a b : ℕ) → (a ≡ b → ⊥) → pairing (Constant a) (Constant b) ≡ Clash
+unfolding pairing
+pairing-clash a b e = simp (ne-eqb a b e)
+
+-- two unbound variables, by their numbers
+module _ (n m : VarNo) (a b : CellAddr) where
+  pub pairing-self : n .0 ≡ m .0 → pairing (Unbound n a) (Unbound m b) ≡ Nothing
+  unfolding pairing
+  pairing-self e = simp (eq-eqb (n .0) (m .0) e)
+
+  pub pairing-lower : (n .0 ≡ m .0 → ⊥) → n .0 < m .0 → pairing (Unbound n a) (Unbound m b) ≡ Binds m b (refWord (a .0))
+  unfolding pairing
+  pairing-lower e l = simp (ne-eqb (n .0) (m .0) e, lt-ltb (n .0) (m .0) l)
+
+  pub pairing-higher : (n .0 ≡ m .0 → ⊥) → m .0 ≤ n .0 → pairing (Unbound n a) (Unbound m b) ≡ Binds n a (refWord (b .0))
+  unfolding pairing
+  pairing-higher e l = simp (ne-eqb (n .0) (m .0) e, le-ltb (n .0) (m .0) l)
