@@ -11,8 +11,9 @@ use Rattle.model.specs.declared.Kind.the-variants.{Predicate, Clause, Node2}
 use Rattle.model.specs.declared.FirstGoal.the-variants.{NoGoal, Goal}
 use Rattle.model.specs.Fields.{widthsOf, op, arity, clauseLength, firstClause, goalPredicate}
 use Rattle.model.specs.Memory.{parent, frame, goalIndex}
-use Rattle.model.specs.Decoding.{goalNext, goalFrom, clauseNext, clauseFrom}
-use Rattle.model.specs.Goals.{pastHead, goalsOf, nextGoal}
+use Rattle.model.specs.Image.{predicateWord}
+use Rattle.model.specs.Decoding.{goalNext, goalFrom, clauseNext, clauseFrom, clauseAt}
+use Rattle.model.specs.Goals.{pastHead, goalPlace, goalsOf, nextGoal}
 use Rattle.words.specs.FieldLaws.{field-lt}
 
 arity-lt : (word : ℕ) → arity word < 16
@@ -102,3 +103,24 @@ module _ (image query nodes : List ℕ) (slot index : ℕ) where
   nextGoal-up (suc depth) h z =
       let s : suc depth - 1 ≡ depth = omega arith in
       rw (s, le-ltb (index + 1) (goalsOf image query nodes slot) h, nextGoal) refl
+
+clauseFrom-le : (image : List ℕ) (clauses at : ℕ) → clauseFrom image at clauses ≤ at + 65535 * clauses
+unfolding clauseFrom clauseNext
+clauseFrom-le image zero at = omega arith
+clauseFrom-le image (suc clauses) at = omega (arith, clauseFrom-le image clauses (at + clauseLength (getD image at 0)), clauseNext-le image at)
+
+-- a clause's place, and a goal's, by the fields that name it
+pub clauseAt-lt : (image : List ℕ) (predicate clause : ℕ) → clause < 1024 → clauseAt image predicate clause < 134217728
+unfolding clauseAt
+clauseAt-lt image predicate clause h =
+    omega (arith, clauseFrom-le image clause (firstClause (predicateWord image predicate)), firstClause-lt (predicateWord image predicate))
+
+goalFrom-le : (image words : List ℕ) (goals at : ℕ) → goalFrom image words at goals ≤ at + 16 * goals
+unfolding goalFrom
+goalFrom-le image words zero at = omega arith
+goalFrom-le image words (suc goals) at = omega (arith, goalFrom-le image words goals (goalNext image words at), goalNext-le image words at)
+
+pub goalPlace-le : (image words : List ℕ) (position index : ℕ) → goalPlace image words position index ≤ position + 16 + 16 * index
+unfolding goalPlace
+goalPlace-le image words position index =
+    omega (arith, goalFrom-le image words index (pastHead 15 words (position + 1)), pastHead-le 15 words (position + 1))

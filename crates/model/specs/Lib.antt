@@ -16,6 +16,7 @@ pub mod Terms
 pub mod Steps
 pub mod Moves
 pub mod Damage
+pub mod WordExamples
 pub mod Examples
 pub mod RuleExamples
 pub mod Cases

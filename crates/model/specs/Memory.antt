@@ -84,6 +84,9 @@ abbrev pub conWord : ℕ → ℕ
 conWord constant = wordOf Value (2 ∷ constant ∷ [])
 
 -- "32 cells from 32s and 32 trail words from 32s"
+abbrev pub firstOf : ℕ → ℕ
+firstOf slot = 32 * slot
+
 abbrev pub cellOf : ℕ → ℕ → ℕ
 cellOf slot variable = 32 * slot + variable
 

@@ -15,16 +15,34 @@ use Rattle.model.specs.declared.Outcome.the-variants.{Tried, Extended, A
 use Rattle.model.specs.Fields.{goalPredicate, arity, sequential, clauseCount, variables, goalCount}
 use Rattle.model.specs.Image.{predicateWord}
 use Rattle.model.specs.Decoding.{clauseAt}
-use Rattle.model.specs.Memory.{Memory, memory, used, parent, depth, entries, ownVariables, base, clausePosition, hasGoal, frame, goalIndex, tried, wordOf, vnoWord, cellOf, arrayOf, withArray, cleared}
+use Rattle.model.specs.Memory.{Memory, memory, used, parent, depth, entries, ownVariables, base, clausePosition, hasGoal, frame, goalIndex, tried, wordOf, vnoWord, firstOf, arrayOf, withArray, cleared}
 use Rattle.model.specs.Goals.{clauseWords, goalPlace, childGoal}
 use Rattle.model.specs.Terms.{Store, unifyHead}
 
-pub record Done : Type 0 where
-  pub outcome : Outcome
-  pub after : Memory
+-- the memory as a worker has it: "its own array" in the place of all arrays
+pub record View : Type 0 where
+  pub nodes : List ℕ
+  pub cells : List ℕ
+  pub trail : List ℕ
+  pub array : List ℕ
+  pub workers : List ℕ
 
-abbrev pub done : Outcome → Memory → Done
-done outcome after = record { outcome = outcome; after = after }
+abbrev pub view : List ℕ → List ℕ → List ℕ → List ℕ → List ℕ → View
+view nodes cells trail array workers = record { nodes = nodes; cells = cells; trail = trail; array = array; workers = workers }
+
+abbrev pub viewOf : Memory → ℕ → View
+viewOf m worker = view (m .nodes) (m .cells) (m .trail) (arrayOf (m .arrays) worker) (m .workers)
+
+abbrev pub withView : Memory → ℕ → View → Memory
+withView m worker v = memory (v .nodes) (v .cells) (v .trail) (withArray (m .arrays) worker (v .array)) (v .workers)
+
+-- what a step did, and the view after it
+pub record Stepped : Type 0 where
+  pub outcome : Outcome
+  pub after : View
+
+abbrev pub stepped : Outcome → View → Stepped
+stepped outcome after = record { outcome = outcome; after = after }
 
 -- the place of a node's first goal, and the predicate that it calls
 abbrev pub goalOf : List ℕ → List ℕ → List ℕ → ℕ → ℕ
@@ -71,23 +89,22 @@ undone zero trail at array = array
 undone (suc count) trail at array = undone count trail (at + 2) (set array (getD trail at 0) 0)
 
 -- "going to the parent takes N's trailed words out of w's array"
-unfoldable pub leftFor : Memory → ℕ → ℕ → Memory
-leftFor m worker node =
-    memory (m .nodes) (m .cells) (m .trail)
-    (withArray (m .arrays) worker (undone (entries (m .nodes) node) (m .trail) (cellOf node 0) (arrayOf (m .arrays) worker)))
-    (set (m .workers) worker (parent (m .nodes) node))
+unfoldable pub leftFor : View → ℕ → ℕ → View
+leftFor v worker node =
+    view (v .nodes) (v .cells) (v .trail) (undone (entries (v .nodes) node) (v .trail) (firstOf node) (v .array))
+    (set (v .workers) worker (parent (v .nodes) node))
 
 -- "free slots are zero throughout"
-unfoldable pub freed : Memory → ℕ → Memory
-freed m slot =
-    memory (cleared 4 (4 * slot) (m .nodes)) (cleared 32 (cellOf slot 0) (m .cells)) (cleared 32 (cellOf slot 0) (m .trail)) (m .arrays) (m .workers)
+unfoldable pub freed : View → ℕ → View
+freed v slot =
+    view (cleared 4 (4 * slot) (v .nodes)) (cleared 32 (firstOf slot) (v .cells)) (cleared 32 (firstOf slot) (v .trail)) (v .array) (v .workers)
 
 -- Rules 1 to 4, N dead. Has N a child; is it the root; is another worker there.
-unfoldable pub deadRule : Bool → Bool → Bool → Memory → ℕ → ℕ → Done
-deadRule false true another m worker node = done Finished m
-deadRule true root another m worker node = done Wait m
-deadRule false false true m worker node = done Left (leftFor m worker node)
-deadRule false false false m worker node = done Back (freed (leftFor m worker node) node)
+unfoldable pub deadRule : Bool → Bool → Bool → View → ℕ → ℕ → Stepped
+deadRule false true another v worker node = stepped Finished v
+deadRule true root another v worker node = stepped Wait v
+deadRule false false true v worker node = stepped Left (leftFor v worker node)
+deadRule false false false v worker node = stepped Back (freed (leftFor v worker node) node)
 
 -- "N's tried count rises"
 unfoldable pub raised : List ℕ → ℕ → List ℕ
@@ -118,72 +135,86 @@ grown nodes node child count own position first =
     (4 * child + 2) (goalFields first))
     (4 * child + 3) 0
 
--- The end of rule 7, by how the head was unified. "Failure: Tried; only that count has changed": what was bound and laid is taken out again.
--- "Success: a child in the lowest free slot, w goes there"
-unfoldable pub taken : Unified → List ℕ → List ℕ → Memory → List ℕ → List ℕ → List ℕ → ℕ → ℕ → ℕ → ℕ → Done
-taken (No count) image query m array cells trail worker node child position =
-    done Tried
-    (memory (raised (m .nodes) node) (cleared (variables (getD image position 0)) (cellOf child 0) cells) (cleared (2 * count) (cellOf child 0) trail)
-    (withArray (m .arrays) worker (undone count trail (cellOf child 0) array)) (m .workers))
-taken (Yes count) image query m array cells trail worker node child position =
-    let first = childGoal image query (m .nodes) child (goalCount (getD image position 0)) (frame (m .nodes) node) (goalIndex (m .nodes) node) in
-    done (arrival first)
-    (memory (grown (raised (m .nodes) node) node child count (variables (getD image position 0)) position first) cells trail
-    (withArray (m .arrays) worker array) (set (m .workers) worker child))
+-- "Failure: Tried; only that count has changed": what was bound and laid is taken out again
+unfoldable pub failed : List ℕ → View → ℕ → ℕ → ℕ → ℕ → View
+failed image v node child position count =
+    view (raised (v .nodes) node) (cleared (variables (getD image position 0)) (firstOf child) (v .cells)) (cleared (2 * count) (firstOf child) (v .trail))
+    (undone count (v .trail) (firstOf child) (v .array)) (v .workers)
 
--- Rule 7. "The next clause is taken; head arguments are unified with the first goal's"
-unfoldable pub takeClause : List ℕ → List ℕ → Memory → ℕ → ℕ → ℕ → Done
-takeClause image query m worker node child =
-    let predicate = predicateOf image query (m .nodes) node in
-    let position = clauseAt image predicate (tried (m .nodes) node) in
-    let childBase = base (m .nodes) node + ownVariables (m .nodes) node in
-    let s =
-    unifyHead (arity (predicateWord image predicate)) image (clauseWords image query (m .nodes) (frame (m .nodes) node)) child childBase (frame (m .nodes) node)
-    (position + 1) (goalOf image query (m .nodes) node + 1) (arrayOf (m .arrays) worker)
-    (laid (variables (getD image position 0)) (cellOf child 0) childBase (m .cells)) (m .trail) 0 in
-    taken (s .unified) image query m (s .array) (s .cells) (s .trail) worker node child position
+-- "Success: a child in the lowest free slot, w goes there; Answer if it has no goal, else Extended"
+unfoldable pub succeeded : List ℕ → View → ℕ → ℕ → ℕ → ℕ → ℕ → FirstGoal → Stepped
+succeeded image v worker node child position count first =
+    stepped (arrival first)
+    (view (grown (raised (v .nodes) node) node child count (variables (getD image position 0)) position first) (v .cells) (v .trail) (v .array) (set (v .workers) worker child))
+
+-- the end of rule 7, by how the head was unified
+unfoldable pub taken : Unified → List ℕ → List ℕ → View → ℕ → ℕ → ℕ → ℕ → Stepped
+taken (No count) image query v worker node child position = stepped Tried (failed image v node child position count)
+taken (Yes count) image query v worker node child position =
+    succeeded image v worker node child position count
+    (childGoal image query (v .nodes) child (goalCount (getD image position 0)) (frame (v .nodes) node) (goalIndex (v .nodes) node))
+
+-- the view with what unifying changed
+abbrev pub withStore : View → Store → View
+withStore v s = view (v .nodes) (s .cells) (s .trail) (s .array) (v .workers)
+
+-- Rule 7, the head: its arguments are unified with the first goal's, over the child's cells
+unfoldable pub headStore : List ℕ → List ℕ → List ℕ → List ℕ → List ℕ → List ℕ → ℕ → ℕ → ℕ → ℕ → Store
+headStore image query nodes array cells trail node child predicate position =
+    unifyHead (arity (predicateWord image predicate)) image (clauseWords image query nodes (frame nodes node)) child (base nodes node + ownVariables nodes node)
+    (frame nodes node) (position + 1) (goalOf image query nodes node + 1) array
+    (laid (variables (getD image position 0)) (firstOf child) (base nodes node + ownVariables nodes node) cells) trail 0
+
+-- Rule 7. "The next clause is taken"
+unfoldable pub takeClause : List ℕ → List ℕ → View → ℕ → ℕ → ℕ → Stepped
+takeClause image query v worker node child =
+    let predicate = predicateOf image query (v .nodes) node in
+    let position = clauseAt image predicate (tried (v .nodes) node) in
+    let s = headStore image query (v .nodes) (v .array) (v .cells) (v .trail) node child predicate position in
+    taken (s .unified) image query (withStore v s) worker node child position
 
 -- Rules 5 to 7, N live. Is N's predicate sequential and has N a child; are all slots used.
-unfoldable pub liveRule : Bool → Bool → List ℕ → List ℕ → Memory → ℕ → ℕ → Done
-liveRule true full image query m worker node = done Wait m
-liveRule false true image query m worker node = done Full m
-liveRule false false image query m worker node = takeClause image query m worker node (lowestFree (m .nodes))
+unfoldable pub liveRule : Bool → Bool → List ℕ → List ℕ → View → ℕ → ℕ → Stepped
+liveRule true full image query v worker node = stepped Wait v
+liveRule false true image query v worker node = stepped Full v
+liveRule false false image query v worker node = takeClause image query v worker node (lowestFree (v .nodes))
 
-unfoldable pub nodeRule : Bool → List ℕ → List ℕ → Memory → ℕ → ℕ → Done
-nodeRule false image query m worker node = deadRule (hasChild (m .nodes) node) (eqb node 0) (anotherThere (m .workers) worker node) m worker node
-nodeRule true image query m worker node =
-    liveRule (eqb (sequential (predicateWord image (predicateOf image query (m .nodes) node))) 1 && hasChild (m .nodes) node) (leb 64 (lowestFree (m .nodes))) image query m worker node
+unfoldable pub nodeRule : Bool → List ℕ → List ℕ → View → ℕ → ℕ → Stepped
+nodeRule false image query v worker node = deadRule (hasChild (v .nodes) node) (eqb node 0) (anotherThere (v .workers) worker node) v worker node
+nodeRule true image query v worker node =
+    liveRule (eqb (sequential (predicateWord image (predicateOf image query (v .nodes) node))) 1 && hasChild (v .nodes) node) (leb 64 (lowestFree (v .nodes))) image query v worker node
 
 -- a step by a worker at the node where it stands
-unfoldable pub step : List ℕ → List ℕ → Memory → ℕ → Done
-step image query m worker = nodeRule (live image query (m .nodes) (getD (m .workers) worker 0)) image query m worker (getD (m .workers) worker 0)
+unfoldable pub step : List ℕ → List ℕ → View → ℕ → Stepped
+step image query v worker = nodeRule (live image query (v .nodes) (getD (v .workers) worker 0)) image query v worker (getD (v .workers) worker 0)
 
+-- what a run did, how many steps it counts, and the view after it
 pub record Ran : Type 0 where
   pub outcome : Outcome
   pub count : ℕ
-  pub after : Memory
+  pub after : View
 
-abbrev pub ran : Outcome → ℕ → Memory → Ran
+abbrev pub ran : Outcome → ℕ → View → Ran
 ran outcome count after = record { outcome = outcome; count = count; after = after }
 
 -- "until Answer, Wait or Finished (counted), Full (not counted, steps before it stand)"; no step says Spent
-abbrev pub goOn : (Memory → Ran) → ℕ → Outcome → Memory → Ran
-goOn more count Tried m = more m
-goOn more count Extended m = more m
-goOn more count Answer m = ran Answer (count + 1) m
-goOn more count Back m = more m
-goOn more count Left m = more m
-goOn more count Wait m = ran Wait (count + 1) m
-goOn more count Finished m = ran Finished (count + 1) m
-goOn more count Spent m = ran Spent (count + 1) m
-goOn more count Full m = ran Full count m
+abbrev pub goOn : (View → Ran) → ℕ → Outcome → View → Ran
+goOn more count Tried v = more v
+goOn more count Extended v = more v
+goOn more count Answer v = ran Answer (count + 1) v
+goOn more count Back v = more v
+goOn more count Left v = more v
+goOn more count Wait v = ran Wait (count + 1) v
+goOn more count Finished v = ran Finished (count + 1) v
+goOn more count Spent v = ran Spent (count + 1) v
+goOn more count Full v = ran Full count v
 
 -- so many steps left of the budget, so many taken: "or until its budget is used: Spent"
-unfoldable pub runFrom : ℕ → ℕ → List ℕ → List ℕ → ℕ → Memory → Ran
-runFrom zero count image query worker m = ran Spent count m
-runFrom (suc left) count image query worker m =
-    let d = step image query m worker in
+unfoldable pub runFrom : ℕ → ℕ → List ℕ → List ℕ → ℕ → View → Ran
+runFrom zero count image query worker v = ran Spent count v
+runFrom (suc left) count image query worker v =
+    let d = step image query v worker in
     goOn (runFrom left (count + 1) image query worker) count (d .outcome) (d .after)
 
-unfoldable pub run : List ℕ → List ℕ → Memory → ℕ → ℕ → Ran
-run image query m worker budget = runFrom budget 0 image query worker m
+unfoldable pub run : List ℕ → List ℕ → View → ℕ → ℕ → Ran
+run image query v worker budget = runFrom budget 0 image query worker v
