@@ -1,1 +1,3 @@
 pub mod RuleLaws
+pub mod FieldBounds
+pub mod TakeLaws

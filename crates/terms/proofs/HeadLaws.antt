@@ -55,3 +55,20 @@ module _ (image words : List ℕ) (child childBase slot head goal : ℕ) (array 
         rw s
         (ap (λ (x : Store). onwards (unifyHead left image words child childBase slot (head + 1) (goal + 1)) (x .array) (x .cells) (x .trail) (x .unified))
         (step ∙ ap₂ (λ (o t : ℕ). unifyWords child childBase slot o t array cells trail count) e f))
+
+-- a head makes at most one entry an argument
+pub unifyHead-count : (arity : ℕ) (image words : List ℕ) (child childBase slot head goal : ℕ) (array cells trail : List ℕ) (count : ℕ)
+    → counted (unifyHead arity image words child childBase slot head goal array cells trail count .unified) ≤ count + arity
+unfolding unifyHead
+unifyHead-count zero image words child childBase slot head goal array cells trail count = omega arith
+unifyHead-count (suc arity) image words child childBase slot head goal array cells trail count =
+    let s = unifyWords child childBase slot (getD image head 0) (getD words goal 0) array cells trail count in
+    go (s .array) (s .cells) (s .trail) (s .unified)
+    (unifyWords-count image words child childBase slot head goal array cells trail count (getD image head 0) (getD words goal 0) (s .array) (s .cells) (s .trail) (s .unified) refl)
+    (unifyHead-count arity image words child childBase slot (head + 1) (goal + 1) (s .array) (s .cells) (s .trail))
+  where
+    go : (a c t : List ℕ) (u : Unified) → counted u ≤ count + 1
+        → ((n : ℕ) → counted (unifyHead arity image words child childBase slot (head + 1) (goal + 1) a c t n .unified) ≤ n + arity)
+        → counted (onwards (unifyHead arity image words child childBase slot (head + 1) (goal + 1)) a c t u .unified) ≤ count + suc arity
+    go a c t (Yes n) h rest = omega (arith, rest n)
+    go a c t (No n) h rest = omega arith

@@ -1,0 +1,70 @@
+use borrow.Author.Needs.{needs}
+use native.Mathlib.Omega.{arith}
+use Rattle.model.specs.Steps.{failed}
+use Rattle.engine.proofs.fail.Statement.{statement}
+use Rattle.engine.proofs.fail.Tie as tie
+use Rattle.engine.proofs.fail.Reads as reads
+use Rattle.engine.proofs.fail.Lts as lts
+use Rattle.memory.proofs.clear.Reads as clear-reads
+use Rattle.memory.proofs.raise.Reads as raise-reads
+use Rattle.memory.proofs.undo.Reads as undo-reads
+use Rattle.words.proofs.variables.Reads as variables-reads
+use Rattle.words.proofs.word_at.Reads as word-at-reads
+
+word-at-requires : tie.Need-word-at-requires
+word-at-requires c κs = search needs
+
+variables-requires : tie.Need-variables-requires
+variables-requires c κs = search needs
+
+mul-first : tie.Need-mul-first
+mul-first c = search needs
+
+undo-requires : tie.Need-undo-requires
+undo-requires c κs = search needs
+
+clear-requires : tie.Need-clear-requires
+clear-requires c κs = search needs
+
+mul-clear : tie.Need-mul-clear
+mul-clear c = search needs
+
+clear-requires-2 : tie.Need-clear-requires-2
+clear-requires-2 c κs = search needs
+
+raise-requires : tie.Need-raise-requires
+raise-requires c κs = search needs
+
+same-length : tie.Need-same-length
+same-length c = search needs
+
+same-length-2 : tie.Need-same-length-2
+same-length-2 c = search needs
+
+same-length-3 : tie.Need-same-length-3
+same-length-3 c = search needs
+
+same-length-4 : tie.Need-same-length-4
+same-length-4 c = search needs
+
+returns : tie.Need-returns
+unfolding failed
+returns c = cc
+
+pub fail-spec : {M : Type 1} → statement M
+fail-spec =
+    tie.close
+    (tie.spec
+    word-at-requires
+    variables-requires
+    mul-first
+    undo-requires
+    clear-requires
+    mul-clear
+    clear-requires-2
+    raise-requires
+    same-length
+    same-length-2
+    same-length-3
+    same-length-4
+    returns)

@@ -1,0 +1,34 @@
+use borrow.Author.Needs.{needs}
+use native.Mathlib.Omega.{arith}
+use Rattle.model.specs.Steps.{goalFields}
+use mathlib.Core.Path.{sym, ap, _∙_}
+use Rattle.engine.proofs.goal_fields.Statement.{statement}
+use Rattle.engine.proofs.goal_fields.Tie as tie
+use Rattle.engine.proofs.goal_fields.Reads as reads
+use Rattle.engine.proofs.goal_fields.Lts as lts
+use Rattle.memory.proofs.node2.Reads as node2-reads
+
+enum-told : tie.Need-enum-told
+enum-told c = search needs
+
+node2-requires : tie.Need-node2-requires
+node2-requires c κs = search needs
+
+enum-known-first : tie.Need-enum-known-first
+enum-known-first c = search needs
+
+node2-requires-2 : tie.Need-node2-requires-2
+node2-requires-2 c κs = search needs
+
+returns : tie.Need-returns
+unfolding goalFields
+returns c = c .node2 .ensures ∙ ap goalFields (sym (c .before .enum-told .given .1))
+
+returns-2 : tie.Need-returns-2
+unfolding goalFields
+returns-2 c = c .node22 .ensures ∙ ap goalFields (sym (c .before .before .first .given .1))
+
+pub goal-fields-spec : {M : Type 1} → statement M
+goal-fields-spec =
+    tie.close
+    (tie.spec enum-told node2-requires enum-known-first node2-requires-2 returns returns-2)
