@@ -1,3 +1,4 @@
 pub mod RuleLaws
 pub mod FieldBounds
 pub mod TakeLaws
+pub mod StepLaws

@@ -4,14 +4,23 @@ use model::Outcome;
 use model::Unified;
 ghost use mathlib.Core.Path.{_≡_};
 ghost use mathlib.Core.List.{[]};
+ghost use mathlib.Core.Bool.{_&&_};
 ghost use Prim.Native.Nat.{_+_, _*_, _<_};
-ghost use lib.Dec.{eqb};
+ghost use lib.Dec.{eqb, leb};
 ghost use lib.ListN.{length, getD, set};
-ghost use Rattle.model.specs.Fields.{variables, goalCount};
+ghost use Rattle.model.specs.Fields.{variables, goalCount, sequential};
 ghost use Rattle.model.specs.Memory.{entries, parent, frame, goalIndex, firstOf, cleared};
+ghost use Rattle.model.specs.Image.{predicateWord};
 ghost use Rattle.model.specs.Goals.{childGoal};
 ghost use Rattle.model.specs.Terms.{store};
-ghost use Rattle.model.specs.Steps.{view, stepped, hasChild, anotherThere, undone, deadRule, raised, grown, goalFields, arrival, failed, succeeded, headStore, takeClause, liveRule, nodeRule, step, predicateOf};
+ghost use Rattle.engine.specs.Live.{liveGoal};
+ghost use Rattle.model.specs.Steps.{view, stepped, hasChild, anotherThere, undone, deadRule, raised, grown, goalFields, arrival, failed, succeeded, headStore, takeClause, lowestFree, liveRule, step, ran, runFrom, predicateOf};
+
+// Whether a node is live, and the predicate that its first goal calls then.
+enum LiveGoal {
+    Dead,
+    Live(u32),
+}
 
 // Going to the parent takes a node's trailed words out of the worker's array.
 fn leave(
@@ -155,5 +164,55 @@ fn take_clause<'a>(image: &'a [u32], query: &'a [u32], nodes: &mut [u32], cells:
             Outcome::Tried
         }
         Unified::Yes(count) => succeed(image, query, nodes, workers, worker, node, child, position, count),
+    }
+}
+
+fn live_goal<'a>(image: &'a [u32], query: &'a [u32], nodes: &[u32], node: u32) -> LiveGoal
+    ensures { λ r. ⌜ r ≡ liveGoal (now (image .entry)) (now (query .entry)) (now (nodes .entry)) node ⌝ }
+{
+    if memory::has_goal(nodes, node) != 1 {
+        return LiveGoal::Dead;
+    }
+    let predicate = goals::predicate_of(image, query, nodes, node);
+    let count = words::clause_count(words::word_at(image, 1 + predicate as usize));
+    if count <= memory::tried(nodes, node) {
+        return LiveGoal::Dead;
+    }
+    LiveGoal::Live(predicate)
+}
+
+// Rule 5: a node whose predicate is sequential waits while it has a child.
+fn waits(nodes: &[u32], word: u32, node: u32) -> bool
+    ensures { λ r. ⌜ r ≡ (eqb (sequential word) 1 && hasChild (now (nodes .entry)) node) ⌝ }
+{
+    if words::sequential(word) != 1 {
+        return false;
+    }
+    memory::has_child(nodes, node)
+}
+
+// Rules 5 to 7, at a live node.
+fn live_step<'a>(image: &'a [u32], query: &'a [u32], nodes: &mut [u32], cells: &mut [u32], trail: &mut [u32], array: &mut [u32], workers: &mut [u32], worker: u32, node: u32, predicate: u32) -> Outcome
+    requires { ⌜ predicate ≡ predicateOf (now image) (now query) (now nodes) node ⌝ }
+    ensures { λ r. ⌜ stepped r (view (now (nodes .exit)) (now (cells .exit)) (now (trail .exit)) (now (array .exit)) (now (workers .exit))) ≡ liveRule (eqb (sequential (predicateWord (now (image .entry)) (predicateOf (now (image .entry)) (now (query .entry)) (now (nodes .entry)) node))) 1 && hasChild (now (nodes .entry)) node) (leb 64 (lowestFree (now (nodes .entry)))) (now (image .entry)) (now (query .entry)) (view (now (nodes .entry)) (now (cells .entry)) (now (trail .entry)) (now (array .entry)) (now (workers .entry))) worker node ⌝ }
+{
+    if waits(nodes, words::word_at(image, 1 + predicate as usize), node) {
+        return Outcome::Wait;
+    }
+    let child = memory::lowest_free(nodes);
+    if 64 <= child {
+        return Outcome::Full;
+    }
+    take_clause(image, query, nodes, cells, trail, array, workers, worker, node, child, predicate)
+}
+
+// A step by a worker at the node where it stands.
+pub fn step<'a>(image: &'a [u32], query: &'a [u32], nodes: &mut [u32], cells: &mut [u32], trail: &mut [u32], array: &mut [u32], workers: &mut [u32], worker: u32) -> Outcome
+    ensures { λ r. ⌜ stepped r (view (now (nodes .exit)) (now (cells .exit)) (now (trail .exit)) (now (array .exit)) (now (workers .exit))) ≡ step (now (image .entry)) (now (query .entry)) (view (now (nodes .entry)) (now (cells .entry)) (now (trail .entry)) (now (array .entry)) (now (workers .entry))) worker ⌝ }
+{
+    let node = words::word_at(workers, worker as usize);
+    match live_goal(image, query, nodes, node) {
+        LiveGoal::Dead => dead_step(nodes, cells, trail, array, workers, worker, node),
+        LiveGoal::Live(predicate) => live_step(image, query, nodes, cells, trail, array, workers, worker, node, predicate),
     }
 }

@@ -1,0 +1,100 @@
+use borrow.Author.Needs.{needs}
+use native.Mathlib.Omega.{arith}
+use Rattle.engine.proofs.StepLaws.{liveGoal-dead, liveGoal-live, step-dead, step-live}
+use Rattle.model.specs.Steps.{view}
+use mathlib.Core.Path.{sym, _∙_}
+use Rattle.engine.proofs.step.Statement.{statement}
+use Rattle.engine.proofs.step.Tie as tie
+use Rattle.engine.proofs.step.Reads as reads
+use Rattle.engine.proofs.step.Lts as lts
+use Rattle.engine.proofs.dead_step.Reads as dead-step-reads
+use Rattle.engine.proofs.live_goal.Reads as live-goal-reads
+use Rattle.engine.proofs.live_step.Reads as live-step-reads
+use Rattle.words.proofs.word_at.Reads as word-at-reads
+
+word-at-requires : tie.Need-word-at-requires
+word-at-requires c κs = search needs
+
+live-goal-requires : tie.Need-live-goal-requires
+live-goal-requires c κs = search needs
+
+enum-told : tie.Need-enum-told
+enum-told c = search needs
+
+dead-step-requires : tie.Need-dead-step-requires
+dead-step-requires c κs = search needs
+
+enum-known-predicate : tie.Need-enum-known-predicate
+enum-known-predicate c = search needs
+
+live-step-requires : tie.Need-live-step-requires
+live-step-requires c κs =
+    let a = c .before .before .before .before .before .before .before .before .before .before .before .before .before .before .before .before .before .before .before .args in
+    liveGoal-live (a .image .now) (a .query .now) (a .nodes .now) (c .before .before .before .before .before .before .before .before .before .before .word-at .result) (c .before .before .before .before .before .before .predicate .given .0 .0) (sym (c .before .before .before .before .before .before .predicate .given .1) ∙ c .before .before .before .before .before .before .before .before .live-goal .ensures) .1
+
+same-length : tie.Need-same-length
+same-length c = search needs
+
+same-length-2 : tie.Need-same-length-2
+same-length-2 c = search needs
+
+same-length-3 : tie.Need-same-length-3
+same-length-3 c = search needs
+
+same-length-4 : tie.Need-same-length-4
+same-length-4 c = search needs
+
+same-length-5 : tie.Need-same-length-5
+same-length-5 c = search needs
+
+returns : tie.Need-returns
+returns c =
+    let a = c .before .before .before .before .before .before .before .before .before .before .before .before .before .before .before .before .before .before .before .before .before .before .before .before .before .before .before .before .before .args in
+    c .before .before .before .before .before .before .before .before .before .before .dead-step .ensures
+    ∙ step-dead (a .image .now) (a .query .now) (view (a .nodes .now) (a .cells .now) (a .trail .now) (a .array .now) (a .workers .now)) (a .worker) (c .before .before .before .before .before .before .before .before .before .before .before .before .before .before .before .before .before .before .before .before .word-at .result) (c .before .before .before .before .before .before .before .before .before .before .before .before .before .before .before .before .before .before .before .before .word-at .ensures)
+    (liveGoal-dead (a .image .now) (a .query .now) (a .nodes .now) (c .before .before .before .before .before .before .before .before .before .before .before .before .before .before .before .before .before .before .before .before .word-at .result) (sym (c .before .before .before .before .before .before .before .before .before .before .before .before .before .before .before .before .enum-told .given .1) ∙ c .before .before .before .before .before .before .before .before .before .before .before .before .before .before .before .before .before .before .live-goal .ensures))
+
+same-length-6 : tie.Need-same-length-6
+same-length-6 c = search needs
+
+same-length-7 : tie.Need-same-length-7
+same-length-7 c = search needs
+
+same-length-8 : tie.Need-same-length-8
+same-length-8 c = search needs
+
+same-length-9 : tie.Need-same-length-9
+same-length-9 c = search needs
+
+same-length-10 : tie.Need-same-length-10
+same-length-10 c = search needs
+
+returns-2 : tie.Need-returns-2
+returns-2 c =
+    let a = c .before .before .before .before .before .before .before .before .before .before .before .before .before .before .before .before .before .before .before .before .before .before .before .before .before .before .before .before .before .before .args in
+    c .before .before .before .before .before .before .before .before .before .before .live-step .ensures
+    ∙ step-live (a .image .now) (a .query .now) (view (a .nodes .now) (a .cells .now) (a .trail .now) (a .array .now) (a .workers .now)) (a .worker) (c .before .before .before .before .before .before .before .before .before .before .before .before .before .before .before .before .before .before .before .before .before .word-at .result) (c .before .before .before .before .before .before .before .before .before .before .before .before .before .before .before .before .before .before .before .before .before .word-at .ensures)
+    (liveGoal-live (a .image .now) (a .query .now) (a .nodes .now) (c .before .before .before .before .before .before .before .before .before .before .before .before .before .before .before .before .before .before .before .before .before .word-at .result) (c .before .before .before .before .before .before .before .before .before .before .before .before .before .before .before .before .before .predicate .given .0 .0) (sym (c .before .before .before .before .before .before .before .before .before .before .before .before .before .before .before .before .before .predicate .given .1) ∙ c .before .before .before .before .before .before .before .before .before .before .before .before .before .before .before .before .before .before .before .live-goal .ensures) .0)
+
+pub step-spec : {M : Type 1} → statement M
+step-spec =
+    tie.close
+    (tie.spec
+    word-at-requires
+    live-goal-requires
+    enum-told
+    dead-step-requires
+    enum-known-predicate
+    live-step-requires
+    same-length
+    same-length-2
+    same-length-3
+    same-length-4
+    same-length-5
+    returns
+    same-length-6
+    same-length-7
+    same-length-8
+    same-length-9
+    same-length-10
+    returns-2)

@@ -1,0 +1,25 @@
+use borrow.Author.Needs.{needs}
+use native.Mathlib.Omega.{arith}
+use Rattle.model.specs.Fields.{sequential}
+use borrow.Author.Tests.{eq-eqb, ne-eqb, lt-ltb, le-ltb, le-leb, lt-leb}
+use Rattle.engine.proofs.waits.Statement.{statement}
+use Rattle.engine.proofs.waits.Tie as tie
+use Rattle.engine.proofs.waits.Reads as reads
+use Rattle.engine.proofs.waits.Lts as lts
+use Rattle.memory.proofs.has_child.Reads as has-child-reads
+use Rattle.words.proofs.sequential.Reads as sequential-reads
+
+sequential-requires : tie.Need-sequential-requires
+sequential-requires c κs = search needs
+
+returns : tie.Need-returns
+returns c = simp (ne-eqb (sequential (c .before .before .before .args .word)) 1 (omega arith))
+
+has-child-requires : tie.Need-has-child-requires
+has-child-requires c κs = search needs
+
+returns-2 : tie.Need-returns-2
+returns-2 c = simp (eq-eqb (sequential (c .before .before .before .before .args .word)) 1 (omega arith)) (c .has-child .ensures)
+
+pub waits-spec : {M : Type 1} → statement M
+waits-spec = tie.close (tie.spec sequential-requires returns has-child-requires returns-2)
