@@ -1,8 +1,7 @@
 -- How large the fields are that a step reads: each has the bits of its table. Document 01, "Shared memory". Assumes nothing.
 use mathlib.Core.List.{List}
-use Prim.Native.Nat.{ℕ, _+_, _*_, _<_}
+use Prim.Native.Nat.{ℕ, _<_}
 use native.Mathlib.Omega.{arith}
-use lib.ListN.{getD}
 use Rattle.model.specs.declared.Kind.the-variants.{Predicate, Clause, Node0, Node1, Node2}
 use Rattle.model.specs.Fields.{widthsOf, arity, variables}
 use Rattle.model.specs.Memory.{depth, ownVariables, base, frame, clausePosition, goalIndex, tried, nodeWord}

@@ -6,13 +6,12 @@ use Prim.Native.Nat.{ℕ, zero, suc, _+_, _-_, _≤_, _<_}
 use native.Mathlib.Omega.{arith}
 use lib.Dec.{eqb, leb}
 use lib.ListN.{getD}
-use Rattle.engine.specs.declared.LiveGoal.{LiveGoal}
-use Rattle.engine.specs.declared.LiveGoal.the-variants.{Dead, Live}
 use Rattle.model.specs.declared.Outcome.{Outcome}
 use Rattle.model.specs.declared.Outcome.the-variants.{Tried, Extended, Answer, Back, Left, Wait, Finished, Spent, Full}
 use Rattle.model.specs.Fields.{sequential}
 use Rattle.model.specs.Image.{predicateWord}
 use Rattle.model.specs.Steps.{View, Stepped, stepped, predicateOf, live, hasChild, anotherThere, lowestFree, deadRule, liveRule, nodeRule, step, Ran, ran, goOn, runFrom}
+use Rattle.engine.specs.declared.LiveGoal.the-variants.{Dead, Live}
 use Rattle.engine.specs.Live.{liveGoal}
 use Rattle.engine.specs.Runs.{stops, lastCount}
 

@@ -1,7 +1,7 @@
 -- Rule 7 from the parts that its functions give: the head's unifying, a child made, a clause taken. Assumes nothing.
-use mathlib.Core.Path.{_≡_, refl, sym, ap, ap₂, _∙_}
+use mathlib.Core.Path.{_≡_, sym, ap, ap₂, _∙_}
 use mathlib.Core.List.{List, []}
-use Prim.Native.Nat.{ℕ, _+_, _*_, _<_}
+use Prim.Native.Nat.{ℕ, _+_, _<_}
 use native.Mathlib.Omega.{arith}
 use lib.ListN.{getD, set}
 use Rattle.model.specs.declared.FirstGoal.{FirstGoal}
@@ -41,8 +41,8 @@ unfolding headStore
 headStore-count image query nodes array cells trail node child predicate position arrayNext cellsNext trailNext found e =
     let h = ap (λ (s : Store). counted (s .unified)) e in
     let n = unifyHead-count (arity (predicateWord image predicate)) image (clauseWords image query nodes (frame nodes node)) child (base nodes node + ownVariables nodes node)
-            (frame nodes node) (position + 1) (goalOf image query nodes node + 1) array
-            (laid (variables (getD image position 0)) (firstOf child) (base nodes node + ownVariables nodes node) cells) trail 0 in
+    (frame nodes node) (position + 1) (goalOf image query nodes node + 1) array
+    (laid (variables (getD image position 0)) (firstOf child) (base nodes node + ownVariables nodes node) cells) trail 0 in
     omega (arith, h, n, arity-lt (predicateWord image predicate))
 
 module _ (image query nodes cells trail array workers : List ℕ) (worker node child predicate position : ℕ)
@@ -54,8 +54,8 @@ module _ (image query nodes cells trail array workers : List ℕ) (worker node c
   takes =
       ap (λ (s : Store). taken (s .unified) image query (withStore (view nodes cells trail array workers) s) worker node child position) headed
       ∙ ap₂ (λ (p at : ℕ).
-          taken (headStore image query nodes array cells trail node child p at .unified) image query (withStore (view nodes cells trail array workers) (headStore image query nodes array cells trail node child p at)) worker node child at)
-        calls (stands ∙ ap (λ (p : ℕ). clauseAt image p (tried nodes node)) calls)
+      taken (headStore image query nodes array cells trail node child p at .unified) image query (withStore (view nodes cells trail array workers) (headStore image query nodes array cells trail node child p at)) worker node child at)
+      calls (stands ∙ ap (λ (p : ℕ). clauseAt image p (tried nodes node)) calls)
 
   pub take-failed : (count : ℕ) (n c t a : List ℕ) → found ≡ No count
       → view n c t a [] ≡ failed image (view nodes cellsNext trailNext arrayNext []) node child position count

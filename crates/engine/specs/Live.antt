@@ -2,9 +2,9 @@
 use mathlib.Core.Bool.{cond}
 use mathlib.Core.List.{List}
 use Prim.Native.Nat.{ℕ}
+use Rattle.model.specs.Steps.{predicateOf, live}
 use Rattle.engine.specs.declared.LiveGoal.{LiveGoal}
 use Rattle.engine.specs.declared.LiveGoal.the-variants.{Dead, Live}
-use Rattle.model.specs.Steps.{predicateOf, live}
 
 unfoldable pub liveGoal : List ℕ → List ℕ → List ℕ → ℕ → LiveGoal
 liveGoal image query nodes node = cond (live image query nodes node) (Live (predicateOf image query nodes node)) Dead

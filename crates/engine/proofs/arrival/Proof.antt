@@ -1,11 +1,9 @@
-use borrow.Author.Needs.{needs}
-use native.Mathlib.Omega.{arith}
-use Rattle.model.specs.Steps.{arrival}
+-- `engine::arrival` meets its contract. Assumes nothing.
 use mathlib.Core.Path.{sym, ap}
+use borrow.Author.Needs.{needs}
+use Rattle.model.specs.Steps.{arrival}
 use Rattle.engine.proofs.arrival.Statement.{statement}
 use Rattle.engine.proofs.arrival.Tie as tie
-use Rattle.engine.proofs.arrival.Reads as reads
-use Rattle.engine.proofs.arrival.Lts as lts
 
 enum-told : tie.Need-enum-told
 enum-told c = search needs

@@ -1,15 +1,8 @@
+-- `engine::fail` meets its contract. Assumes nothing.
 use borrow.Author.Needs.{needs}
-use native.Mathlib.Omega.{arith}
 use Rattle.model.specs.Steps.{failed}
 use Rattle.engine.proofs.fail.Statement.{statement}
 use Rattle.engine.proofs.fail.Tie as tie
-use Rattle.engine.proofs.fail.Reads as reads
-use Rattle.engine.proofs.fail.Lts as lts
-use Rattle.memory.proofs.clear.Reads as clear-reads
-use Rattle.memory.proofs.raise.Reads as raise-reads
-use Rattle.memory.proofs.undo.Reads as undo-reads
-use Rattle.words.proofs.variables.Reads as variables-reads
-use Rattle.words.proofs.word_at.Reads as word-at-reads
 
 word-at-requires : tie.Need-word-at-requires
 word-at-requires c κs = search needs

@@ -1,12 +1,9 @@
-use borrow.Author.Needs.{needs}
-use native.Mathlib.Omega.{arith}
-use Rattle.model.specs.Steps.{goalFields}
+-- `engine::goal_fields` meets its contract. Assumes nothing.
 use mathlib.Core.Path.{sym, ap, _∙_}
+use borrow.Author.Needs.{needs}
+use Rattle.model.specs.Steps.{goalFields}
 use Rattle.engine.proofs.goal_fields.Statement.{statement}
 use Rattle.engine.proofs.goal_fields.Tie as tie
-use Rattle.engine.proofs.goal_fields.Reads as reads
-use Rattle.engine.proofs.goal_fields.Lts as lts
-use Rattle.memory.proofs.node2.Reads as node2-reads
 
 enum-told : tie.Need-enum-told
 enum-told c = search needs

@@ -1,18 +1,10 @@
-use borrow.Author.Needs.{needs}
+-- `engine::grow` meets its contract. Assumes nothing.
 use native.Mathlib.Omega.{arith}
-use Rattle.engine.proofs.FieldBounds.{depth-lt, base-lt, ownVariables-lt}
+use borrow.Author.Needs.{needs}
 use Rattle.model.specs.Steps.{grown}
+use Rattle.engine.proofs.FieldBounds.{depth-lt, base-lt, ownVariables-lt}
 use Rattle.engine.proofs.grow.Statement.{statement}
 use Rattle.engine.proofs.grow.Tie as tie
-use Rattle.engine.proofs.grow.Reads as reads
-use Rattle.engine.proofs.grow.Lts as lts
-use Rattle.engine.proofs.goal_fields.Reads as goal-fields-reads
-use Rattle.memory.proofs.base.Reads as base-reads
-use Rattle.memory.proofs.depth.Reads as depth-reads
-use Rattle.memory.proofs.node0.Reads as node0-reads
-use Rattle.memory.proofs.node1.Reads as node1-reads
-use Rattle.memory.proofs.own_variables.Reads as own-variables-reads
-use Rattle.words.proofs.put.Reads as put-reads
 
 depth-requires : tie.Need-depth-requires
 depth-requires c κs = search needs

@@ -1,22 +1,16 @@
-use borrow.Author.Needs.{needs}
+-- `engine::live_goal` meets its contract. Assumes nothing.
+use mathlib.Core.Path.{ap, _∙_}
 use native.Mathlib.Omega.{arith}
-use Rattle.engine.specs.Live.{liveGoal}
-use Rattle.engine.specs.declared.LiveGoal.the-variants.{Live}
+use borrow.Author.Needs.{needs}
+use borrow.Author.Tests.{eq-eqb, ne-eqb, lt-ltb, le-ltb}
 use Rattle.model.specs.Steps.{predicateOf, live}
 use Rattle.model.specs.Memory.{hasGoal, tried}
 use Rattle.model.specs.Image.{predicateWord}
 use Rattle.model.specs.Fields.{clauseCount}
-use borrow.Author.Tests.{eq-eqb, ne-eqb, lt-ltb, le-ltb, le-leb, lt-leb}
-use mathlib.Core.Path.{ap, _∙_}
+use Rattle.engine.specs.Live.{liveGoal}
+use Rattle.engine.specs.declared.LiveGoal.the-variants.{Live}
 use Rattle.engine.proofs.live_goal.Statement.{statement}
 use Rattle.engine.proofs.live_goal.Tie as tie
-use Rattle.engine.proofs.live_goal.Reads as reads
-use Rattle.engine.proofs.live_goal.Lts as lts
-use Rattle.goals.proofs.predicate_of.Reads as predicate-of-reads
-use Rattle.memory.proofs.has_goal.Reads as has-goal-reads
-use Rattle.memory.proofs.tried.Reads as tried-reads
-use Rattle.words.proofs.clause_count.Reads as clause-count-reads
-use Rattle.words.proofs.word_at.Reads as word-at-reads
 
 has-goal-requires : tie.Need-has-goal-requires
 has-goal-requires c κs = search needs

@@ -1,22 +1,17 @@
-use borrow.Author.Needs.{needs}
+-- `engine::live_step` meets its contract. Assumes nothing.
+use mathlib.Core.Bool.{_&&_}
+use mathlib.Core.Path.{sym, ap, _∙_}
+use Prim.Native.Nat.{ℕ}
 use native.Mathlib.Omega.{arith}
-use Rattle.engine.proofs.RuleLaws.{liveRule-wait, liveRule-full, liveRule-take}
+use lib.Dec.{eqb, leb}
+use borrow.Author.Needs.{needs}
+use borrow.Author.Tests.{le-leb, lt-leb}
 use Rattle.model.specs.Steps.{view, predicateOf, hasChild, lowestFree, takeClause}
 use Rattle.model.specs.Image.{predicateWord}
 use Rattle.model.specs.Fields.{sequential}
-use borrow.Author.Tests.{eq-eqb, ne-eqb, lt-ltb, le-ltb, le-leb, lt-leb}
-use lib.Dec.{eqb, leb}
-use Prim.Native.Nat.{ℕ}
-use mathlib.Core.Bool.{_&&_}
-use mathlib.Core.Path.{sym, ap, _∙_}
+use Rattle.engine.proofs.RuleLaws.{liveRule-wait, liveRule-full, liveRule-take}
 use Rattle.engine.proofs.live_step.Statement.{statement}
 use Rattle.engine.proofs.live_step.Tie as tie
-use Rattle.engine.proofs.live_step.Reads as reads
-use Rattle.engine.proofs.live_step.Lts as lts
-use Rattle.engine.proofs.take_clause.Reads as take-clause-reads
-use Rattle.engine.proofs.waits.Reads as waits-reads
-use Rattle.memory.proofs.lowest_free.Reads as lowest-free-reads
-use Rattle.words.proofs.word_at.Reads as word-at-reads
 
 add-word-at : tie.Need-add-word-at
 add-word-at c = search needs

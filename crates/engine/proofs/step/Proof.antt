@@ -1,16 +1,10 @@
-use borrow.Author.Needs.{needs}
-use native.Mathlib.Omega.{arith}
-use Rattle.engine.proofs.StepLaws.{liveGoal-dead, liveGoal-live, step-dead, step-live}
-use Rattle.model.specs.Steps.{view}
+-- `engine::step` meets its contract. Assumes nothing.
 use mathlib.Core.Path.{sym, _∙_}
+use borrow.Author.Needs.{needs}
+use Rattle.model.specs.Steps.{view}
+use Rattle.engine.proofs.StepLaws.{liveGoal-dead, liveGoal-live, step-dead, step-live}
 use Rattle.engine.proofs.step.Statement.{statement}
 use Rattle.engine.proofs.step.Tie as tie
-use Rattle.engine.proofs.step.Reads as reads
-use Rattle.engine.proofs.step.Lts as lts
-use Rattle.engine.proofs.dead_step.Reads as dead-step-reads
-use Rattle.engine.proofs.live_goal.Reads as live-goal-reads
-use Rattle.engine.proofs.live_step.Reads as live-step-reads
-use Rattle.words.proofs.word_at.Reads as word-at-reads
 
 word-at-requires : tie.Need-word-at-requires
 word-at-requires c κs = search needs

@@ -1,24 +1,12 @@
-use borrow.Author.Needs.{needs}
-use native.Mathlib.Omega.{arith}
-use Rattle.engine.proofs.TakeLaws.{success-from}
-use Rattle.model.specs.Fields.{variables, goalCount}
+-- `engine::succeed` meets its contract. Assumes nothing.
 use mathlib.Core.Path.{ap, _∙_}
+use native.Mathlib.Omega.{arith}
+use borrow.Author.Needs.{needs}
+use Rattle.model.specs.Fields.{variables, goalCount}
+use Rattle.engine.proofs.TakeLaws.{success-from}
 use Rattle.goals.proofs.PlaceLaws.{goalIndex-lt}
-use Rattle.model.specs.Steps.{succeeded}
 use Rattle.engine.proofs.succeed.Statement.{statement}
 use Rattle.engine.proofs.succeed.Tie as tie
-use Rattle.engine.proofs.succeed.Reads as reads
-use Rattle.engine.proofs.succeed.Lts as lts
-use Rattle.engine.proofs.arrival.Reads as arrival-reads
-use Rattle.engine.proofs.grow.Reads as grow-reads
-use Rattle.goals.proofs.child_goal.Reads as child-goal-reads
-use Rattle.memory.proofs.frame.Reads as frame-reads
-use Rattle.memory.proofs.goal_index.Reads as goal-index-reads
-use Rattle.memory.proofs.raise.Reads as raise-reads
-use Rattle.words.proofs.goal_count.Reads as goal-count-reads
-use Rattle.words.proofs.put.Reads as put-reads
-use Rattle.words.proofs.variables.Reads as variables-reads
-use Rattle.words.proofs.word_at.Reads as word-at-reads
 
 word-at-requires : tie.Need-word-at-requires
 word-at-requires c κs = search needs

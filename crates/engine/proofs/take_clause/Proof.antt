@@ -1,20 +1,14 @@
-use borrow.Author.Needs.{needs}
+-- `engine::take_clause` meets its contract. Assumes nothing.
+use mathlib.Core.Path.{ap, _∙_}
+use Prim.Native.Nat.{_<_}
 use native.Mathlib.Omega.{arith}
+use borrow.Author.Needs.{needs}
+use Rattle.model.specs.Decoding.{clauseAt}
 use Rattle.engine.proofs.TakeLaws.{headStore-count, take-failed, take-succeeded}
 use Rattle.engine.proofs.FieldBounds.{tried-lt}
 use Rattle.goals.proofs.PlaceLaws.{clauseAt-lt}
-use Rattle.model.specs.Decoding.{clauseAt}
-use Prim.Native.Nat.{_<_}
-use mathlib.Core.Path.{ap, _∙_}
 use Rattle.engine.proofs.take_clause.Statement.{statement}
 use Rattle.engine.proofs.take_clause.Tie as tie
-use Rattle.engine.proofs.take_clause.Reads as reads
-use Rattle.engine.proofs.take_clause.Lts as lts
-use Rattle.engine.proofs.fail.Reads as fail-reads
-use Rattle.engine.proofs.succeed.Reads as succeed-reads
-use Rattle.engine.proofs.try_head.Reads as try-head-reads
-use Rattle.goals.proofs.clause_at.Reads as clause-at-reads
-use Rattle.memory.proofs.tried.Reads as tried-reads
 
 tried-requires : tie.Need-tried-requires
 tried-requires c κs = search needs

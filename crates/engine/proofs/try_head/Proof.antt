@@ -1,24 +1,12 @@
-use borrow.Author.Needs.{needs}
-use native.Mathlib.Omega.{arith}
-use Rattle.engine.proofs.TakeLaws.{head-from}
-use Rattle.model.specs.Fields.{arity, variables}
+-- `engine::try_head` meets its contract. Assumes nothing.
 use mathlib.Core.Path.{ap, _∙_}
+use native.Mathlib.Omega.{arith}
+use borrow.Author.Needs.{needs}
+use Rattle.model.specs.Fields.{arity, variables}
+use Rattle.engine.proofs.TakeLaws.{head-from}
 use Rattle.engine.proofs.FieldBounds.{base-lt, ownVariables-lt, variables-lt, frame-lt, goalOf-lt, arity-lt}
-use Rattle.model.specs.Steps.{headStore}
 use Rattle.engine.proofs.try_head.Statement.{statement}
 use Rattle.engine.proofs.try_head.Tie as tie
-use Rattle.engine.proofs.try_head.Reads as reads
-use Rattle.engine.proofs.try_head.Lts as lts
-use Rattle.goals.proofs.clause_words.Reads as clause-words-reads
-use Rattle.goals.proofs.goal_of.Reads as goal-of-reads
-use Rattle.memory.proofs.base.Reads as base-reads
-use Rattle.memory.proofs.frame.Reads as frame-reads
-use Rattle.memory.proofs.lay.Reads as lay-reads
-use Rattle.memory.proofs.own_variables.Reads as own-variables-reads
-use Rattle.terms.proofs.unify_head.Reads as unify-head-reads
-use Rattle.words.proofs.arity.Reads as arity-reads
-use Rattle.words.proofs.variables.Reads as variables-reads
-use Rattle.words.proofs.word_at.Reads as word-at-reads
 
 frame-requires : tie.Need-frame-requires
 frame-requires c κs = search needs

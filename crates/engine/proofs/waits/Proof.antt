@@ -1,13 +1,10 @@
-use borrow.Author.Needs.{needs}
+-- `engine::waits` meets its contract. Assumes nothing.
 use native.Mathlib.Omega.{arith}
+use borrow.Author.Needs.{needs}
+use borrow.Author.Tests.{eq-eqb, ne-eqb}
 use Rattle.model.specs.Fields.{sequential}
-use borrow.Author.Tests.{eq-eqb, ne-eqb, lt-ltb, le-ltb, le-leb, lt-leb}
 use Rattle.engine.proofs.waits.Statement.{statement}
 use Rattle.engine.proofs.waits.Tie as tie
-use Rattle.engine.proofs.waits.Reads as reads
-use Rattle.engine.proofs.waits.Lts as lts
-use Rattle.memory.proofs.has_child.Reads as has-child-reads
-use Rattle.words.proofs.sequential.Reads as sequential-reads
 
 sequential-requires : tie.Need-sequential-requires
 sequential-requires c κs = search needs
