@@ -1,5 +1,8 @@
 // Load, moves and reading an answer, in words: document 01, "The steps", last paragraph, and "Refused calls" on load.
 // Nothing is judged here. A move and a read work in the worker's own part of the arrays.
+use model::CellAddr;
+use model::Found;
+use model::Kind;
 ghost use mathlib.Core.Path.{_≡_};
 ghost use mathlib.Core.List.{List, [], _∷_, _++_};
 ghost use Prim.Native.Nat.{ℕ, _+_, _*_, _≤_, _<_};
@@ -156,4 +159,92 @@ pub fn load(
     words::put(nodes, 0, memory::node0(0, 0, 0, variables));
     words::put(nodes, 2, memory::node2(1, 0, 0, 0));
     memory::lay(cells, 0, 0, variables);
+}
+
+// The place of a number among the first `count` that were seen, `count` where it is not there.
+fn place_of(seen: &[u32], count: u32, number: u32) -> u32
+    requires { ⌜ count ≤ length (now seen) ⌝ }
+    ensures { λ r. ⌜ r ≡ placeOf (take count (now (seen .entry))) number ⌝ }
+{
+    let mut at: u32 = 0;
+    while at < count {
+        if words::word_at(seen, at as usize) == number {
+            return at;
+        }
+        at += 1;
+    }
+    at
+}
+
+fn con_word(constant: u32) -> u32
+    ensures { λ r. ⌜ r ≡ wordOf Con (2 ∷ constant ∷ []) ⌝ }
+{
+    words::placed(2, Kind::Con, 0) + words::placed(constant, Kind::Con, 1)
+}
+
+fn var_word(number: u32) -> u32
+    ensures { λ r. ⌜ r ≡ wordOf Var (1 ∷ 0 ∷ number ∷ []) ⌝ }
+{
+    words::placed(1, Kind::Var, 0) + words::placed(number, Kind::Var, 2)
+}
+
+// One word of the answer, for a query variable. The first `count` words of `seen` are the numbers seen before; answers how many are seen then.
+fn read_word(
+    array: &[u32],
+    cells: &[u32],
+    seen: &mut [u32],
+    count: u32,
+    variable: u32,
+    room: &mut [u32],
+) -> u32
+    requires { ⌜ (length (now seen) ≡ 64) × (count < 64) ⌝ }
+    ensures { λ r. ⌜ (now (room .exit) ≡ set (now (room .entry)) variable (answerWord (take count (now (seen .entry))) (dereference 2048 (now (array .entry)) (now (cells .entry)) variable))) × (take r (now (seen .exit)) ≡ seenWithFound (take count (now (seen .entry))) (dereference 2048 (now (array .entry)) (now (cells .entry)) variable)) × (r ≤ count + 1) ⌝ }
+{
+    match terms::dereference(array, cells, CellAddr(variable)) {
+        Found::Constant(constant) => {
+            words::put(room, variable as usize, con_word(constant));
+            count
+        }
+        Found::Unbound(number, _) => {
+            let place = place_of(seen, count, number.0);
+            words::put(room, variable as usize, var_word(place));
+            if place < count {
+                return count;
+            }
+            words::put(seen, count as usize, number.0);
+            count + 1
+        }
+    }
+}
+
+// The answer's words, at the front of the room.
+fn read_words(array: &[u32], cells: &[u32], variables: u32, room: &mut [u32])
+    requires { ⌜ (variables < 64) × (variables ≤ length (now room)) ⌝ }
+    ensures { λ _. ⌜ now (room .exit) ≡ answerFrom variables (now (array .entry)) (now (cells .entry)) 0 [] ++ drop variables (now (room .entry)) ⌝ }
+{
+    let mut seen = [0u32; 64];
+    let mut count: u32 = 0;
+    let mut variable: u32 = 0;
+    while variable < variables {
+        count = read_word(array, cells, &mut seen, count, variable, room);
+        variable += 1;
+    }
+}
+
+// Writes one image word for each query variable at the front of the room, and answers how many they are. The promise holds whatever nodes, trail and workers are: reading does not look at them.
+pub fn read_answer(
+    query: &[u32],
+    cells: &[u32],
+    arrays: &[u32],
+    worker: u32,
+    room: &mut [u32],
+) -> usize
+    requires { ⌜ (length (now arrays) ≡ 8192) × (worker < 4) × (variables (getD (now query) 0 0) ≤ length (now room)) ⌝ }
+    ensures { λ r. ⌜ ((nodes trail workers : List ℕ) → let words = answer (now (query .entry)) (memory nodes (now (cells .entry)) trail (now (arrays .entry)) workers) worker in (now (room .exit) ≡ words ++ drop r (now (room .entry))) × (r ≡ length words)) ⌝ }
+{
+    let variables = words::variables(words::word_at(query, 0));
+    let base = 2048 * worker as usize;
+    let end = base + 2048;
+    read_words(&arrays[base..end], cells, variables, room);
+    variables as usize
 }

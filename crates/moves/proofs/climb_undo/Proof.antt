@@ -54,12 +54,13 @@ loop-less c = omega arith
 loop-again : tie.Need-loop-again Inv-loop μ-loop
 loop-again c =
     let l = c .before .before .before .before .before .before .before .before .loop in
-    let a = c .before .before .before .before .before .before .before .before .before .before .before .before .args in
-    (omega (arith, c .before .before .before .undo .kept, l .inv .0),
-    omega (arith, c .parent .ensures, parent-lt (a .nodes .now) (l .slot)),
-    omega (arith, l .inv .2, c .before .before .before .before .before .entries .ensures, entries-lt (a .nodes .now) (l .slot)),
-    climbed-turn undone (a .nodes .now) (a .trail .now) (a .ancestor) (l .left) (l .slot) (l .array) (l .passed) _ _ _ (omega arith) (c .before .before .before .before .before .before .if1 .left) (c .before .before .before .undo .ensures) (c .before .before .before .before .before .entries .ensures) (c .parent .ensures)
-    ∙ l .inv .3)
+    let a = c .before .before .before .before .before .before .before .before .before .before .before .before .args in (
+      omega (arith, c .before .before .before .undo .kept, l .inv .0),
+      omega (arith, c .parent .ensures, parent-lt (a .nodes .now) (l .slot)),
+      omega (arith, l .inv .2, c .before .before .before .before .before .entries .ensures, entries-lt (a .nodes .now) (l .slot)),
+      climbed-turn undone (a .nodes .now) (a .trail .now) (a .ancestor) (l .left) (l .slot) (l .array) (l .passed) _ _ _ (omega arith) (c .before .before .before .before .before .before .if1 .left) (c .before .before .before .undo .ensures) (c .before .before .before .before .before .entries .ensures) (c .parent .ensures)
+          ∙ l .inv .3,
+    )
 
 same-length-2 : tie.Need-same-length-2 Inv-loop μ-loop
 same-length-2 c = c .before .loop .inv .0

@@ -54,11 +54,11 @@ loop-again c =
     let a = c .before .before .before .before .before .before .before .before .before .args in
     ⊎-elim
     (λ w.
-      ap₂ (λ (i j : ℕ). meeting (l .left - 1) (a .nodes .now) i j) (w .2) (w .3 ∙ w .1 .ensures)
-      ∙ meeting-other (a .nodes .now) (l .left) (l .here) (l .there) (omega arith) (c .before .before .before .if1 .left) (omega (arith, w .0 .taken, c .before .before .depth3 .ensures, c .before .depth4 .ensures)) ∙ l .inv)
+    ap₂ (λ (i j : ℕ). meeting (l .left - 1) (a .nodes .now) i j) (w .2) (w .3 ∙ w .1 .ensures)
+    ∙ meeting-other (a .nodes .now) (l .left) (l .here) (l .there) (omega arith) (c .before .before .before .if1 .left) (omega (arith, w .0 .taken, c .before .before .depth3 .ensures, c .before .depth4 .ensures)) ∙ l .inv)
     (λ w.
-      ap₂ (λ (i j : ℕ). meeting (l .left - 1) (a .nodes .now) i j) (w .2 ∙ w .1 .ensures) (w .3)
-      ∙ meeting-slot (a .nodes .now) (l .left) (l .here) (l .there) (omega arith) (c .before .before .before .if1 .left) (omega (arith, w .0 .left, c .before .before .depth3 .ensures, c .before .depth4 .ensures)) ∙ l .inv)
+    ap₂ (λ (i j : ℕ). meeting (l .left - 1) (a .nodes .now) i j) (w .2 ∙ w .1 .ensures) (w .3)
+    ∙ meeting-slot (a .nodes .now) (l .left) (l .here) (l .there) (omega arith) (c .before .before .before .if1 .left) (omega (arith, w .0 .left, c .before .before .depth3 .ensures, c .before .depth4 .ensures)) ∙ l .inv)
     (c .if2 .came)
 
 returns-2 : tie.Need-returns-2 Inv-loop μ-loop

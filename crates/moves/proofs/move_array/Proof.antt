@@ -22,8 +22,14 @@ climb-undo-requires c κs = let a = c .before .before .before .before .before .b
 climb-install-requires : tie.Need-climb-install-requires
 climb-install-requires c κs =
     let a = c .before .before .before .before .before .before .before .before .before .before .before .args in
-    omega (arith, c .before .before .before .before .before .before .depth .ensures, c .before .before .before .before .before .depth2 .ensures, depth-lt (a .nodes .now) (a .here), depth-lt (a .nodes .now) (a .target),
-    leg-passed undone (a .nodes .now) (a .trail .now) _ _ _ _ _ _ _ (c .before .before .before .climb-undo .ensures))
+    omega (
+      arith,
+      c .before .before .before .before .before .before .depth .ensures,
+      c .before .before .before .before .before .depth2 .ensures,
+      depth-lt (a .nodes .now) (a .here),
+      depth-lt (a .nodes .now) (a .target),
+      leg-passed undone (a .nodes .now) (a .trail .now) _ _ _ _ _ _ _ (c .before .before .before .climb-undo .ensures),
+    )
 
 same-length : tie.Need-same-length
 same-length c = search needs

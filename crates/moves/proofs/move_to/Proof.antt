@@ -43,8 +43,8 @@ returns : tie.Need-returns
 returns c =
     let a = c .before .before .before .before .before .before .before .before .before .before .before .before .before .before .args in
     λ cells.
-      moved-by (a .nodes .now) cells (a .trail .now) (a .arrays .now) (a .workers .now) (a .worker) (a .target) _ _ _ _ _
-      (add-sub-cancel-left (2048 * a .worker) 2048) (c .before .before .before .before .before .before .before .before .word-at .ensures) (c .before .before .before .before .before .before .move-array .ensures) (c .before .before .put .ensures)
+    moved-by (a .nodes .now) cells (a .trail .now) (a .arrays .now) (a .workers .now) (a .worker) (a .target) _ _ _ _ _
+    (add-sub-cancel-left (2048 * a .worker) 2048) (c .before .before .before .before .before .before .before .before .word-at .ensures) (c .before .before .before .before .before .before .move-array .ensures) (c .before .before .put .ensures)
 
 pub move-to-spec : {M : Type 1} → statement M
 move-to-spec =
