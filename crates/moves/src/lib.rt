@@ -45,7 +45,7 @@ fn climb_undo(
     start: u32,
     before: u32,
 ) -> u32
-    requires { ⌜ (most < 64) × (before < 65536) ⌝ }
+    requires { ⌜ (most < 64) × (before < 1048576) ⌝ }
     ensures { λ r. ⌜ leg (now (array .exit)) r ≡ climbed undone most (now (nodes .entry)) (now (trail .entry)) ancestor start (now (array .entry)) before ⌝ }
 {
     let mut slot = start;
@@ -74,7 +74,7 @@ fn climb_install(
     start: u32,
     before: u32,
 ) -> u32
-    requires { ⌜ (most < 64) × (before < 65536) ⌝ }
+    requires { ⌜ (most < 64) × (before < 1048576) ⌝ }
     ensures { λ r. ⌜ leg (now (array .exit)) r ≡ climbed installed most (now (nodes .entry)) (now (trail .entry)) ancestor start (now (array .entry)) before ⌝ }
 {
     let mut slot = start;
