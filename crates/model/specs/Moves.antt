@@ -60,14 +60,18 @@ pub record Moved : Type 0 where
 abbrev pub moved : ℕ → Memory → Moved
 moved passed after = record { passed = passed; after = after }
 
--- "a move takes w to any used slot and returns the entries passed on both legs": up to the common ancestor, taking entries out, and down from it, putting entries in
+-- a move's two legs for one worker's array: up to the common ancestor, taking entries out, and down from it, putting entries in
+unfoldable pub legs : List ℕ → List ℕ → ℕ → ℕ → List ℕ → Leg
+legs nodes trail here target array =
+    let ancestor = commonAncestor nodes here target in
+    let up = climbed undone (depth nodes here) nodes trail ancestor here array 0 in
+    climbed installed (depth nodes target) nodes trail ancestor target (up .array) (up .passed)
+
+-- "a move takes w to any used slot and returns the entries passed on both legs"
 unfoldable pub move : Memory → ℕ → ℕ → Moved
 move m worker target =
-    let here = getD (m .workers) worker 0 in
-    let ancestor = commonAncestor (m .nodes) here target in
-    let up = climbed undone (depth (m .nodes) here) (m .nodes) (m .trail) ancestor here (arrayOf (m .arrays) worker) 0 in
-    let down = climbed installed (depth (m .nodes) target) (m .nodes) (m .trail) ancestor target (up .array) (up .passed) in
-    moved (down .passed) (memory (m .nodes) (m .cells) (m .trail) (withArray (m .arrays) worker (down .array)) (set (m .workers) worker target))
+    let both = legs (m .nodes) (m .trail) (getD (m .workers) worker 0) target (arrayOf (m .arrays) worker) in
+    moved (both .passed) (memory (m .nodes) (m .cells) (m .trail) (withArray (m .arrays) worker (both .array)) (set (m .workers) worker target))
 
 -- the place of a number in a list, its length where it is not there
 unfoldable pub placeOf : List ℕ → ℕ → ℕ

@@ -1,0 +1,3 @@
+pub mod MoveLaws
+pub mod LoadLaws
+pub mod ReadLaws
