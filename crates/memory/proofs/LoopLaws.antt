@@ -1,17 +1,18 @@
--- One turn of each loop over memory words: stores in a row, entries of a trail, a search from a number on. Assumes nothing.
+-- One turn of each loop over memory words: stores in a row, entries of a trail, a search from a number on, a walk up. Assumes nothing.
 use mathlib.Core.Path.{_≡_, refl, sym, ap, _∙_}
 use mathlib.Core.Bool.{Bool, true, false, not, _&&_}
 use mathlib.Core.List.{List}
-use Prim.Native.Nat.{ℕ, zero, suc, _+_, _-_, _≤_, _<_}
+use Prim.Native.Nat.{ℕ, zero, suc, _+_, _-_, _*_, _≤_, _<_}
+use native.Mathlib.Nat.{add-zero}
 use native.Mathlib.Omega.{arith}
 use lib.Dec.{eqb}
 use lib.ListN.{getD, set}
 use borrow.Author.Tests.{eq-eqb, ne-eqb}
-use Rattle.model.specs.declared.Kind.the-variants.{Node2}
+use Rattle.model.specs.declared.Kind.the-variants.{Node0, Node2}
 use Rattle.model.specs.Fields.{widthsOf, field}
-use Rattle.model.specs.Memory.{cleared, vnoWord, used, parent}
+use Rattle.model.specs.Memory.{cleared, vnoWord, used, parent, entries}
 use Rattle.model.specs.Steps.{childFrom, anotherFrom, freeFrom, undone, laid}
-use Rattle.model.specs.Moves.{installed}
+use Rattle.model.specs.Moves.{installed, climbed, leg}
 use Rattle.words.specs.FieldLaws.{field-lt}
 
 pub cleared-turn : (left at : ℕ) (words : List ℕ) → 0 < left → cleared (left - 1) (at + 1) (set words at 0) ≡ cleared left at words
@@ -125,3 +126,29 @@ freeFrom-miss nodes (suc left) slot h e = let s : suc left - 1 ≡ left = omega 
 pub tried-lt : (word : ℕ) → field (widthsOf Node2) word 3 < 1024
 unfolding widthsOf
 tried-lt word = field-lt (widthsOf Node2) word 3
+
+-- a slot's trail entries are counted by four bits
+pub entries-lt : (nodes : List ℕ) (slot : ℕ) → entries nodes slot < 16
+unfolding widthsOf
+entries-lt nodes slot = field-lt (widthsOf Node0) (getD nodes (4 * slot + 0) 0) 3
+
+-- a walk up, whatever it does to the array: it has climbed as often as it may, it is there, or it goes on
+module _ (change : ℕ → List ℕ → ℕ → List ℕ → List ℕ) (nodes trail : List ℕ) (ancestor : ℕ) where
+  pub climbed-end : (left slot passed : ℕ) (array : List ℕ) → left ≤ 0 → leg array passed ≡ climbed change left nodes trail ancestor slot array passed
+  unfolding climbed
+  climbed-end zero slot passed array h = refl
+  climbed-end (suc left) slot passed array h = absurd (omega arith)
+
+  pub climbed-there : (left slot passed : ℕ) (array : List ℕ) → 0 < left → slot ≡ ancestor → leg array passed ≡ climbed change left nodes trail ancestor slot array passed
+  unfolding climbed
+  climbed-there zero slot passed array h e = absurd (omega arith)
+  climbed-there (suc left) slot passed array h e = rw (eq-eqb slot ancestor e, climbed) refl
+
+  pub climbed-turn : (left slot passed here up : ℕ) (array next : List ℕ) → 0 < left → (slot ≡ ancestor → ⊥)
+      → here ≡ entries nodes slot → up ≡ parent nodes slot → next ≡ change here trail (32 * slot) array
+      → climbed change (left - 1) nodes trail ancestor up next (passed + here) ≡ climbed change left nodes trail ancestor slot array passed
+  unfolding climbed
+  climbed-turn zero slot passed here up array next h n eh eu en = absurd (omega arith)
+  climbed-turn (suc left) slot passed here up array next h n eh eu en =
+      let s : suc left - 1 ≡ left = omega arith in
+      rw (s, en, eh, eu, ne-eqb slot ancestor n, climbed, add-zero (32 * slot)) refl

@@ -10,10 +10,10 @@ ghost use Rattle.model.specs.declared.Kind.the-variants.{Node0, Node1, Node2, V
 ghost use Rattle.model.specs.Fields.{widthsOf, field};
 ghost use Rattle.model.specs.Memory.{nodeWord, used, parent, depth, entries, ownVariables, base, clausePosition, hasGoal, frame, goalIndex, tried, wordOf, vnoWord, refWord, conWord, cellOf, cleared};
 ghost use Rattle.model.specs.Steps.{childFrom, anotherFrom, freeFrom, undone, laid, raised};
-ghost use Rattle.model.specs.Moves.{installed};
+ghost use Rattle.model.specs.Moves.{installed, climbed, leg};
 
 // A field of word `part` of a slot's node.
-fn node_field(nodes: &[u32], slot: u32, part: usize, kind: Kind, i: usize) -> u32
+pub fn node_field(nodes: &[u32], slot: u32, part: usize, kind: Kind, i: usize) -> u32
     requires { ⌜ part < 4 ⌝ }
     ensures { λ r. ⌜ r ≡ field (widthsOf kind) (nodeWord (now (nodes .entry)) slot part) i ⌝ }
 {
@@ -177,6 +177,64 @@ pub fn install(array: &mut [u32], trail: &[u32], start: usize, count: u32)
         at += 2;
         left -= 1;
     }
+}
+
+// A walk up from a slot to an ancestor, over at most so many slots: their trail entries are put into an array. The entries passed are counted on.
+pub fn climb_install(
+    array: &mut [u32],
+    nodes: &[u32],
+    trail: &[u32],
+    ancestor: u32,
+    start: u32,
+    most: u32,
+    passed: u32,
+) -> u32
+    requires { ⌜ passed + 16 * most < 4294967296 ⌝ }
+    ensures { λ r. ⌜ leg (now (array .exit)) r ≡ climbed installed most (now (nodes .entry)) (now (trail .entry)) ancestor start (now (array .entry)) passed ⌝ }
+{
+    let mut slot = start;
+    let mut left = most;
+    let mut count = passed;
+    while 0 < left {
+        if slot == ancestor {
+            return count;
+        }
+        let here = entries(nodes, slot);
+        install(array, trail, 32 * slot as usize, here);
+        count += here;
+        slot = parent(nodes, slot);
+        left -= 1;
+    }
+    count
+}
+
+// The same walk, by which the entries are taken out.
+pub fn climb_undo(
+    array: &mut [u32],
+    nodes: &[u32],
+    trail: &[u32],
+    ancestor: u32,
+    start: u32,
+    most: u32,
+    passed: u32,
+) -> u32
+    requires { ⌜ passed + 16 * most < 4294967296 ⌝ }
+    ensures { λ r. ⌜ leg (now (array .exit)) r ≡ climbed undone most (now (nodes .entry)) (now (trail .entry)) ancestor start (now (array .entry)) passed ⌝ }
+{
+    let mut slot = start;
+    let mut left = most;
+    let mut count = passed;
+    while 0 < left {
+        if slot == ancestor {
+            return count;
+        }
+        let here = entries(nodes, slot);
+        undo(array, trail, 32 * slot as usize, here);
+        count += here;
+        slot = parent(nodes, slot);
+        left -= 1;
+    }
+    count
 }
 
 // Has a node a child: a used slot other than the root whose parent it is.

@@ -10,10 +10,9 @@ use lib.ListN.{getD, replicate}
 use Rattle.model.specs.declared.Kind.the-variants.{Node0, Node1, Node2}
 use Rattle.model.specs.declared.FirstGoal.{FirstGoal}
 use Rattle.model.specs.declared.FirstGoal.the-variants.{NoGoal, Goal}
-use Rattle.model.specs.Fields.{widthsOf, field, clauseCount, variables, goalCount}
+use Rattle.model.specs.Fields.{widthsOf, field, clauseCount, firstClause, variables, goalCount}
 use Rattle.model.specs.Image.{predicateWord}
 use Rattle.model.specs.Decoding.{clauseNext}
-use Rattle.model.specs.Fields.{firstClause}
 use Rattle.model.specs.Memory.{Memory, nodeWord, used, parent, depth, entries, ownVariables, base, clausePosition, hasGoal, frame, goalIndex, tried, vnoWord, tag, value, cellOf, numberAt, valueAt, arrayOf}
 use Rattle.model.specs.Goals.{clauseWords, childGoal}
 use Rattle.model.specs.Steps.{predicateOf}
@@ -35,8 +34,8 @@ zeroFields nodes slot =
     && eqb (field (widthsOf Node2) (nodeWord nodes slot 2) 4) 0 && eqb (nodeWord nodes slot 3) 0
 
 -- "free slots zero"
-unfoldable pub freeZero : Memory → ℕ → Bool
-freeZero m slot = zeros 4 (m .nodes) (4 * slot) && zeros 32 (m .cells) (cellOf slot 0) && zeros 32 (m .trail) (cellOf slot 0)
+unfoldable pub freeZero : List ℕ → List ℕ → List ℕ → ℕ → Bool
+freeZero nodes cells trail slot = zeros 4 nodes (4 * slot) && zeros 32 cells (cellOf slot 0) && zeros 32 trail (cellOf slot 0)
 
 -- a position among so many clauses, from one on
 unfoldable pub amongClauses : ℕ → List ℕ → ℕ → ℕ → Bool
@@ -48,11 +47,15 @@ unfoldable pub rootSound : List ℕ → Bool
 rootSound nodes =
     eqb (used nodes 0) 1 && eqb (parent nodes 0) 0 && eqb (depth nodes 0) 0 && eqb (clausePosition nodes 0) 0 && eqb (base nodes 0) 0
 
+-- the predicate word of a node's first goal
+abbrev pub calledWord : List ℕ → List ℕ → List ℕ → ℕ → ℕ
+calledWord image query nodes node = predicateWord image (predicateOf image query nodes node)
+
 -- "each other used slot has a used parent, depth one more, and a clause position among the tried clauses of the parent's first goal"
 unfoldable pub linked : List ℕ → List ℕ → List ℕ → ℕ → Bool
 linked image query nodes slot =
     eqb (used nodes (parent nodes slot)) 1 && eqb (depth nodes slot) (depth nodes (parent nodes slot) + 1) && eqb (hasGoal nodes (parent nodes slot)) 1
-    && amongClauses (tried nodes (parent nodes slot)) image (firstClause (predicateWord image (predicateOf image query nodes (parent nodes slot)))) (clausePosition nodes slot)
+    && amongClauses (tried nodes (parent nodes slot)) image (firstClause (calledWord image query nodes (parent nodes slot))) (clausePosition nodes slot)
 
 -- a slot's CLAUSE word
 abbrev pub clauseOf : List ℕ → List ℕ → List ℕ → ℕ → ℕ
@@ -65,18 +68,26 @@ ruleGoal image query nodes slot =
     (childGoal image query nodes slot (goalCount (clauseOf image query nodes slot)) (frame nodes (parent nodes slot)) (goalIndex nodes (parent nodes slot)))
 
 -- "has goal, frame and index follow the rules; tried is at most the clause count, 0 without a goal"
-unfoldable pub goalSound : List ℕ → List ℕ → List ℕ → ℕ → FirstGoal → Bool
-goalSound image query nodes slot NoGoal =
-    eqb (hasGoal nodes slot) 0 && eqb (frame nodes slot) 0 && eqb (goalIndex nodes slot) 0 && eqb (tried nodes slot) 0
-goalSound image query nodes slot (Goal holder index) =
+unfoldable pub withoutGoal : List ℕ → ℕ → Bool
+withoutGoal nodes slot = eqb (hasGoal nodes slot) 0 && eqb (frame nodes slot) 0 && eqb (goalIndex nodes slot) 0 && eqb (tried nodes slot) 0
+
+unfoldable pub withGoal : List ℕ → List ℕ → List ℕ → ℕ → ℕ → ℕ → Bool
+withGoal image query nodes slot holder index =
     eqb (hasGoal nodes slot) 1 && eqb (frame nodes slot) holder && eqb (goalIndex nodes slot) index
-    && leb (tried nodes slot) (clauseCount (predicateWord image (predicateOf image query nodes slot)))
+    && leb (tried nodes slot) (clauseCount (calledWord image query nodes slot))
+
+unfoldable pub goalSound : List ℕ → List ℕ → List ℕ → ℕ → FirstGoal → Bool
+goalSound image query nodes slot NoGoal = withoutGoal nodes slot
+goalSound image query nodes slot (Goal holder index) = withGoal image query nodes slot holder index
+
+-- "base is the parent's base plus the parent's variables"; the root's is judged above
+unfoldable pub baseSound : List ℕ → ℕ → Bool
+baseSound nodes slot = eqb slot 0 || eqb (base nodes slot) (base nodes (parent nodes slot) + ownVariables nodes (parent nodes slot))
 
 -- "variables, base .. follow the rules"
 unfoldable pub nodeSound : List ℕ → List ℕ → List ℕ → ℕ → Bool
 nodeSound image query nodes slot =
-    eqb (ownVariables nodes slot) (variables (clauseOf image query nodes slot))
-    && (eqb slot 0 || eqb (base nodes slot) (base nodes (parent nodes slot) + ownVariables nodes (parent nodes slot)))
+    eqb (ownVariables nodes slot) (variables (clauseOf image query nodes slot)) && baseSound nodes slot
     && goalSound image query nodes slot (ruleGoal image query nodes slot)
 
 -- a slot on the path to a slot, climbing at most so often
@@ -89,75 +100,81 @@ unfoldable pub ownerOf : ℕ → List ℕ → ℕ → ℕ → ℕ
 ownerOf zero nodes slot number = slot
 ownerOf (suc most) nodes slot number = elim (leb (base nodes slot) number) [ true ↦ slot | false ↦ ownerOf most nodes (parent nodes slot) number ]
 
+-- an address is that of "a lower-numbered variable's cell on the path"
+unfoldable pub refSound : List ℕ → ℕ → ℕ → ℕ → Bool
+refSound nodes slot number address =
+    ltb address 2048 && ltb (address % 32) (ownVariables nodes (address / 32)) && ltb (base nodes (address / 32) + address % 32) number
+    && onPath (depth nodes slot) nodes slot (address / 32)
+
 -- "a CON below 2^28, or a REF to a lower-numbered variable's cell on the path"
 unfoldable pub valueSound : List ℕ → ℕ → ℕ → ℕ → Bool
 valueSound nodes slot number word =
-    cond (eqb (tag word) 2) (ltb (value word) 268435456)
-    (eqb (tag word) 1 && ltb (value word) 2048 && ltb (value word % 32) (ownVariables nodes (value word / 32))
-    && ltb (base nodes (value word / 32) + value word % 32) number && onPath (depth nodes slot) nodes slot (value word / 32))
+    cond (eqb (tag word) 2) (ltb (value word) 268435456) (eqb (tag word) 1 && refSound nodes slot number (value word))
 
 -- "a cell past the variables is 0, any other is its own VNO, a CON .., or a REF .."
-unfoldable pub cellSound : Memory → ℕ → ℕ → Bool
-cellSound m slot variable =
-    cond (ltb variable (ownVariables (m .nodes) slot))
-    (eqb (getD (m .cells) (cellOf slot variable) 0) (vnoWord (base (m .nodes) slot + variable))
-    || valueSound (m .nodes) slot (base (m .nodes) slot + variable) (getD (m .cells) (cellOf slot variable) 0))
-    (eqb (getD (m .cells) (cellOf slot variable) 0) 0)
+unfoldable pub cellSound : List ℕ → List ℕ → ℕ → ℕ → Bool
+cellSound nodes cells slot variable =
+    cond (ltb variable (ownVariables nodes slot))
+    (eqb (getD cells (cellOf slot variable) 0) (vnoWord (base nodes slot + variable))
+    || valueSound nodes slot (base nodes slot + variable) (getD cells (cellOf slot variable) 0))
+    (eqb (getD cells (cellOf slot variable) 0) 0)
 
 -- a number is none of a slot's first entries, so many from one on
 unfoldable pub notAmong : ℕ → List ℕ → ℕ → ℕ → ℕ → Bool
 notAmong count trail slot number entry = each count (λ k. not (eqb (getD trail (numberAt slot k) 0) number)) entry
 
 -- a number is trailed at no slot above, climbing at most so often
-unfoldable pub notAbove : ℕ → Memory → ℕ → ℕ → Bool
-notAbove zero m slot number = true
-notAbove (suc most) m slot number =
-    elim (notAmong (entries (m .nodes) (parent (m .nodes) slot)) (m .trail) (parent (m .nodes) slot) number 0) [
-      | true ↦ notAbove most m (parent (m .nodes) slot) number
+unfoldable pub notAbove : ℕ → List ℕ → List ℕ → ℕ → ℕ → Bool
+notAbove zero nodes trail slot number = true
+notAbove (suc most) nodes trail slot number =
+    elim (notAmong (entries nodes (parent nodes slot)) trail (parent nodes slot) number 0) [
+      | true ↦ notAbove most nodes trail (parent nodes slot) number
       | false ↦ false
     ]
 
+-- a slot's cell for the variable with a number is its VNO
+unfoldable pub vnoAt : List ℕ → List ℕ → ℕ → ℕ → Bool
+vnoAt nodes cells owner number = eqb (getD cells (cellOf owner (number - base nodes owner)) 0) (vnoWord number)
+
 -- "trail numbers are below base, different along a path, their cells VNO, their values such a CON or REF"
-unfoldable pub entrySound : Memory → ℕ → ℕ → Bool
-entrySound m slot entry =
-    let number = getD (m .trail) (numberAt slot entry) 0 in
-    let owner = ownerOf (depth (m .nodes) slot) (m .nodes) slot number in
-    ltb number (base (m .nodes) slot) && notAmong entry (m .trail) slot number 0 && notAbove (depth (m .nodes) slot) m slot number
-    && eqb (getD (m .cells) (cellOf owner (number - base (m .nodes) owner)) 0) (vnoWord number)
-    && valueSound (m .nodes) slot number (getD (m .trail) (valueAt slot entry) 0)
+unfoldable pub entrySound : List ℕ → List ℕ → List ℕ → ℕ → ℕ → Bool
+entrySound nodes cells trail slot entry =
+    let number = getD trail (numberAt slot entry) 0 in
+    ltb number (base nodes slot) && notAmong entry trail slot number 0 && notAbove (depth nodes slot) nodes trail slot number
+    && vnoAt nodes cells (ownerOf (depth nodes slot) nodes slot number) number && valueSound nodes slot number (getD trail (valueAt slot entry) 0)
 
 -- "words past them 0; at most 15 entries, none at the root"; four bits hold at most 15
-unfoldable pub trailSound : Memory → ℕ → Bool
-trailSound m slot =
-    (not (eqb slot 0) || eqb (entries (m .nodes) slot) 0) && each (entries (m .nodes) slot) (entrySound m slot) 0
-    && zeros (32 - 2 * entries (m .nodes) slot) (m .trail) (numberAt slot (entries (m .nodes) slot))
+unfoldable pub trailSound : List ℕ → List ℕ → List ℕ → ℕ → Bool
+trailSound nodes cells trail slot =
+    (not (eqb slot 0) || eqb (entries nodes slot) 0) && each (entries nodes slot) (entrySound nodes cells trail slot) 0
+    && zeros (32 - 2 * entries nodes slot) trail (numberAt slot (entries nodes slot))
 
 -- a used slot's links: judged for all slots before anything climbs
-unfoldable pub slotLinked : List ℕ → List ℕ → Memory → ℕ → Bool
-slotLinked image query m slot =
-    zeroFields (m .nodes) slot
-    && cond (eqb (used (m .nodes) slot) 1) (eqb slot 0 || linked image query (m .nodes) slot) (freeZero m slot)
+unfoldable pub slotLinked : List ℕ → List ℕ → List ℕ → List ℕ → List ℕ → ℕ → Bool
+slotLinked image query nodes cells trail slot =
+    zeroFields nodes slot && cond (eqb (used nodes slot) 1) (eqb slot 0 || linked image query nodes slot) (freeZero nodes cells trail slot)
 
 -- a used slot's clause, cells and trail
-unfoldable pub slotSound : List ℕ → List ℕ → Memory → ℕ → Bool
-slotSound image query m slot =
-    cond (eqb (used (m .nodes) slot) 1) (nodeSound image query (m .nodes) slot && each 32 (cellSound m slot) 0 && trailSound m slot) true
+unfoldable pub slotSound : List ℕ → List ℕ → List ℕ → List ℕ → List ℕ → ℕ → Bool
+slotSound image query nodes cells trail slot =
+    cond (eqb (used nodes slot) 1) (nodeSound image query nodes slot && each 32 (cellSound nodes cells slot) 0 && trailSound nodes cells trail slot) true
 
 -- the trail entries from a slot up to the root, put into an empty array: "read from the stored trails"
-unfoldable pub pathArray : Memory → ℕ → List ℕ
-pathArray m slot = climbed installed (depth (m .nodes) slot) (m .nodes) (m .trail) 0 slot (replicate 2048 0) 0 .array
+unfoldable pub pathArray : List ℕ → List ℕ → ℕ → List ℕ
+pathArray nodes trail slot = climbed installed (depth nodes slot) nodes trail 0 slot (replicate 2048 0) 0 .array
 
 -- two lists have the same words at so many places from one on
 unfoldable pub sameWords : ℕ → List ℕ → List ℕ → ℕ → Bool
 sameWords count these those at = each count (λ k. eqb (getD these k 0) (getD those k 0)) at
 
 -- "each worker's slot used and its array as demand 3 says"
-unfoldable pub workerSound : Memory → ℕ → Bool
-workerSound m worker =
-    ltb (getD (m .workers) worker 0) 64 && eqb (used (m .nodes) (getD (m .workers) worker 0)) 1
-    && sameWords 2048 (arrayOf (m .arrays) worker) (pathArray m (getD (m .workers) worker 0)) 0
+unfoldable pub workerSound : List ℕ → List ℕ → List ℕ → List ℕ → ℕ → Bool
+workerSound nodes trail arrays workers worker =
+    ltb (getD workers worker 0) 64 && eqb (used nodes (getD workers worker 0)) 1
+    && sameWords 2048 (arrayOf arrays worker) (pathArray nodes trail (getD workers worker 0)) 0
 
 -- 21 is given exactly when this is false
 unfoldable pub sound : List ℕ → List ℕ → Memory → Bool
 sound image query m =
-    rootSound (m .nodes) && each 64 (slotLinked image query m) 0 && each 64 (slotSound image query m) 0 && each 4 (workerSound m) 0
+    rootSound (m .nodes) && each 64 (slotLinked image query (m .nodes) (m .cells) (m .trail)) 0
+    && each 64 (slotSound image query (m .nodes) (m .cells) (m .trail)) 0 && each 4 (workerSound (m .nodes) (m .trail) (m .arrays) (m .workers)) 0
