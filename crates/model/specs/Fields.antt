@@ -31,6 +31,20 @@ widthsOf Node3 = 32 ∷ []
 -- tag, value
 widthsOf Value = 3 ∷ 29 ∷ []
 
+-- which fields stand in the spread form, by word kind: all but the zero field
+unfoldable pub keptFields : Kind → List ℕ
+keptFields Header = 0 ∷ 1 ∷ 3 ∷ []
+keptFields Predicate = 0 ∷ 1 ∷ 2 ∷ 3 ∷ []
+keptFields Clause = 0 ∷ 1 ∷ 2 ∷ 3 ∷ []
+keptFields Var = 0 ∷ 2 ∷ []
+keptFields Con = 0 ∷ 1 ∷ []
+keptFields Goal = 0 ∷ 1 ∷ []
+keptFields Node0 = 0 ∷ 1 ∷ 2 ∷ 3 ∷ 4 ∷ []
+keptFields Node1 = 0 ∷ 2 ∷ []
+keptFields Node2 = 0 ∷ 1 ∷ 2 ∷ 3 ∷ []
+keptFields Node3 = []
+keptFields Value = 0 ∷ 1 ∷ []
+
 -- the bits of all fields together
 unfoldable pub total : List ℕ → ℕ
 total [] = 0

@@ -1,6 +1,7 @@
 pub mod Fields
 pub mod Numbers
 pub mod Image
+pub mod Spread
 pub mod Bytes
 pub mod Rules
 pub mod Encoding
@@ -18,6 +19,7 @@ pub mod Moves
 pub mod Damage
 pub mod WordExamples
 pub mod Examples
+pub mod SpreadExamples
 pub mod RuleExamples
 pub mod Cases
 pub mod Tried

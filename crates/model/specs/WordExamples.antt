@@ -11,7 +11,7 @@ use Rattle.model.specs.Memory.{Memory, cutTo, wordOf, cleared, arrayOf}
 use Rattle.model.specs.Goals.{pastHead, goalPlace, nextGoal, childGoal}
 use Rattle.model.specs.Terms.{foundSaid, dereference, argumentOf, bind, pairing, unifyPair, unifyWords, unifyHead}
 use Rattle.model.specs.Steps.{viewOf, withView, live, childFrom, anotherFrom, freeFrom, undone, leftFor, freed, deadRule, raised, laid, goalFields, arrival, grown, failed, succeeded, taken, headStore, takeClause, liveRule, nodeRule, step}
-use Rattle.model.specs.Moves.{loaded, meeting, installed, climbed, move, placeOf, withNumber, answerWord, seenWithFound, answerFrom, answer}
+use Rattle.model.specs.Moves.{loaded, meeting, installed, climbed, legs, move, placeOf, withNumber, answerWord, seenWithFound, answerFrom, answer}
 use Rattle.model.specs.Examples.{deskImage}
 
 -- what is done with a loaded memory, and what must be seen
@@ -88,5 +88,5 @@ wordExamples =
     ∷ []
 
 pub word-examples : T (allSeen wordExamples)
-unfolding widthsOf total below field join goalNext goalFrom clauseNext clauseFrom clauseAt outcomeNumber cutTo wordOf cleared pastHead goalPlace nextGoal childGoal foundSaid dereference argumentOf bind pairing unifyPair unifyWords unifyHead live childFrom anotherFrom freeFrom undone leftFor freed deadRule raised laid goalFields arrival grown failed succeeded taken headStore takeClause liveRule nodeRule step loaded meeting installed climbed move placeOf withNumber answerWord seenWithFound answerFrom answer sameList seen allSeen
+unfolding widthsOf total below field join goalNext goalFrom clauseNext clauseFrom clauseAt outcomeNumber cutTo wordOf cleared pastHead goalPlace nextGoal childGoal foundSaid dereference argumentOf bind pairing unifyPair unifyWords unifyHead live childFrom anotherFrom freeFrom undone leftFor freed deadRule raised laid goalFields arrival grown failed succeeded taken headStore takeClause liveRule nodeRule step loaded meeting installed climbed legs move placeOf withNumber answerWord seenWithFound answerFrom answer sameList seen allSeen
 word-examples = tt

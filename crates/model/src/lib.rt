@@ -42,15 +42,31 @@ pub enum Walk {
     Met(Fault, usize),
 }
 
-// Whose fault it is: faults of a query have numbers of their own.
+// Why a call is refused: a fault of the image; a fault of the query, whose numbers are its own; and what is wrong with a spread list or a room.
 pub enum Refusal {
     Image(Fault),
     Query(Fault),
+    TooWide,
+    ListEnds,
+    Room,
+    UnknownOp,
 }
 
 // What a check answers: legal, or the refusal and the position.
 pub enum Verdict {
     Legal,
+    Refused(Refusal, usize),
+}
+
+// Where the scan of a spread list stands: through, up to a place in the list or a count of words; or stopped by a refusal at a place.
+pub enum Scan {
+    Through(usize),
+    Stopped(Refusal, usize),
+}
+
+// What a call that writes into a room answers: the count of words written, or the refusal and the position.
+pub enum Written {
+    Done(usize),
     Refused(Refusal, usize),
 }
 

@@ -35,5 +35,9 @@ pub fn refusal_number(refusal: Refusal) -> u32
     match refusal {
         Refusal::Image(fault) => fault_number(fault),
         Refusal::Query(fault) => 32 + fault_number(fault),
+        Refusal::TooWide => 18,
+        Refusal::ListEnds => 19,
+        Refusal::Room => 26,
+        Refusal::UnknownOp => 29,
     }
 }

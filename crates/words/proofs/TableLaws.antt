@@ -32,11 +32,11 @@ table =
     ∷ []
 
 -- a test that holds at every number below a bound holds at each
-abbrev upto : ℕ → (ℕ → Bool) → Bool
+abbrev pub upto : ℕ → (ℕ → Bool) → Bool
 upto zero test = true
 upto (suc n) test = test n && upto n test
 
-upto-at : (n : ℕ) (test : ℕ → Bool) → T (upto n test) → (k : ℕ) → k < n → T (test k)
+pub upto-at : (n : ℕ) (test : ℕ → Bool) → T (upto n test) → (k : ℕ) → k < n → T (test k)
 upto-at zero test h k l = absurd (not-suc-le-zero l)
 upto-at (suc n) test h k l = go (test n) refl (upto-at n test) h
   where

@@ -1,10 +1,12 @@
-// Reading the fields of a word. The field widths stand once, in `WIDTHS`.
+// The fields of a word: reading them, and placing values in them. The field widths stand once, in `WIDTHS`.
 use model::Kind;
 ghost use mathlib.Core.Path.{_≡_};
 ghost use Prim.Native.Nat.{_+_, _*_, _%_, _^_, _≤_, _<_};
+ghost use lib.Dec.{ltb};
 ghost use lib.ListN.{getD, set};
-ghost use Rattle.model.specs.Fields.{widthsOf, below, field, edition, predicateCount, headerZero, imageLength, arity, clauseCount, firstClause, op, variables, goalCount, clauseLength, variableZero, variableNumber, goalPredicate, goalZero, constant, sequential};
+ghost use Rattle.model.specs.Fields.{widthsOf, keptFields, below, field, edition, predicateCount, headerZero, imageLength, arity, clauseCount, firstClause, op, variables, goalCount, clauseLength, variableZero, variableNumber, goalPredicate, goalZero, constant, sequential};
 ghost use Rattle.model.specs.Memory.{tag, value};
+ghost use Rattle.model.specs.Spread.{groupSize};
 ghost use Rattle.words.specs.Table.{rowOf};
 
 // The widths of every kind of word, most significant first, a row a kind.
@@ -21,6 +23,24 @@ const WIDTHS: [[u32; 6]; 11] = [
     [32, 0, 0, 0, 0, 0], // Node3
     [3, 29, 0, 0, 0, 0], // Value
 ];
+
+// Which fields stand in the spread form, a row a kind, 0 past the last of them.
+const KEPT: [[usize; 6]; 11] = [
+    [0, 1, 3, 0, 0, 0], // Header
+    [0, 1, 2, 3, 0, 0], // Predicate
+    [0, 1, 2, 3, 0, 0], // Clause
+    [0, 2, 0, 0, 0, 0], // Var
+    [0, 1, 0, 0, 0, 0], // Con
+    [0, 1, 0, 0, 0, 0], // Goal
+    [0, 1, 2, 3, 4, 0], // Node0
+    [0, 2, 0, 0, 0, 0], // Node1
+    [0, 1, 2, 3, 0, 0], // Node2
+    [0, 0, 0, 0, 0, 0], // Node3
+    [0, 1, 0, 0, 0, 0], // Value
+];
+
+// How many fields stand in the spread form, by kind.
+const SIZES: [usize; 11] = [3, 4, 4, 2, 2, 2, 5, 2, 4, 0, 2];
 
 fn row(kind: Kind) -> usize
     ensures { λ r. ⌜ r ≡ rowOf kind ⌝ }
@@ -75,6 +95,32 @@ pub fn read(word: u32, kind: Kind, i: usize) -> u32
     let shift = low(kind, i);
     let bits = width(kind, i);
     ((word as u64 >> shift) % (1u64 << bits)) as u32
+}
+
+// How many fields of a word stand in the spread form.
+pub fn group_size(kind: Kind) -> usize
+    ensures { λ r. ⌜ r ≡ groupSize kind ⌝ }
+{
+    SIZES[row(kind)]
+}
+
+// The field that stands at place `j` of the spread form.
+pub fn kept_field(kind: Kind, j: usize) -> usize
+    ensures { λ r. ⌜ r ≡ getD (keptFields kind) j 0 ⌝ }
+{
+    if 6 <= j {
+        return 0;
+    }
+    let kept = KEPT[row(kind)];
+    kept[j]
+}
+
+// Whether a value is not too wide for field `i`.
+pub fn fits(value: u32, kind: Kind, i: usize) -> bool
+    ensures { λ r. ⌜ r ≡ ltb value (2 ^ getD (widthsOf kind) i 0) ⌝ }
+{
+    let bits = width(kind, i);
+    (value as u64) < (1u64 << bits)
 }
 
 // The word at a position, 0 past the end.

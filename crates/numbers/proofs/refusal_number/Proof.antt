@@ -23,11 +23,35 @@ fault-number-requires-2 c κs = search needs
 add-result : tie.Need-add-result
 add-result c = omega (arith, c .fault-number2 .ensures, faultNumber-lt (c .before .before .refusal2 .given .0 .0))
 
+enum-told : tie.Need-enum-told
+enum-told c = search needs
+
+enum-told-2 : tie.Need-enum-told-2
+enum-told-2 c = search needs
+
+enum-told-3 : tie.Need-enum-told-3
+enum-told-3 c = search needs
+
+enum-told-4 : tie.Need-enum-told-4
+enum-told-4 c = search needs
+
 returns : tie.Need-returns
-returns c = search needs
+returns c = c .fault-number .ensures ∙ ap refusalNumber (sym (c .before .before .refusal .given .1))
 
 returns-2 : tie.Need-returns-2
 returns-2 c = ap (λ (n : ℕ). 32 + n) (c .fault-number2 .ensures) ∙ ap refusalNumber (sym (c .before .before .refusal2 .given .1))
+
+returns-3 : tie.Need-returns-3
+returns-3 c = ap refusalNumber (sym (c .enum-told .given .1))
+
+returns-4 : tie.Need-returns-4
+returns-4 c = ap refusalNumber (sym (c .enum-told2 .given .1))
+
+returns-5 : tie.Need-returns-5
+returns-5 c = ap refusalNumber (sym (c .enum-told3 .given .1))
+
+returns-6 : tie.Need-returns-6
+returns-6 c = ap refusalNumber (sym (c .enum-told4 .given .1))
 
 pub refusal-number-spec : {M : Type 1} → statement M
 refusal-number-spec =
@@ -38,5 +62,13 @@ refusal-number-spec =
     enum-known-refusal-2
     fault-number-requires-2
     add-result
+    enum-told
+    enum-told-2
+    enum-told-3
+    enum-told-4
     returns
-    returns-2)
+    returns-2
+    returns-3
+    returns-4
+    returns-5
+    returns-6)

@@ -1,0 +1,98 @@
+-- `spread::groups::judge` meets its contract. The loop's invariant: what is left to do gives the whole. Assumes nothing.
+use mathlib.Core.Path.{_≡_, refl, sym, _∙_}
+use Prim.Native.Nat.{_-_, _≤_}
+use native.Mathlib.Omega.{arith}
+use lib.ListN.{length, getD, drop}
+use borrow.Author.Needs.{needs}
+use borrow.Author.Tests.{not-true, not-false}
+use Rattle.model.specs.Spread.{groupSize, judged}
+use Rattle.model.specs.Fields.{widthsOf, keptFields}
+use Rattle.spread.proofs.LoopLaws.{wide}
+use Rattle.spread.proofs.LoopLaws.{judge-end, judge-short, judge-turn}
+use Rattle.spread.proofs.groups.judge.Statement.{statement}
+use Rattle.spread.proofs.groups.judge.Tie as tie
+
+abbrev Inv-loop : tie.InvT-loop
+Inv-loop list kind at size place₀ j₀ place j = (j ≤ size) × (place ≤ length list) × (judged (widthsOf kind) (drop j (keptFields kind)) place (drop place list) ≡ judged (widthsOf kind) (keptFields kind) at (drop at list))
+
+abbrev μ-loop : tie.MeasureT-loop
+μ-loop list kind at size place₀ j₀ place j = size - j
+
+group-size-requires : tie.Need-group-size-requires Inv-loop μ-loop
+group-size-requires c κs = search needs
+
+loop-holds : tie.Need-loop-holds Inv-loop μ-loop
+loop-holds c = (omega arith, omega arith, refl)
+
+returns : tie.Need-returns Inv-loop μ-loop
+unfolding groupSize
+returns c =
+    let a = c .before .before .before .before .before .args in
+    let l = c .before .before .loop in
+    sym (judge-short (widthsOf (a .kind)) (keptFields (a .kind)) (a .list .now) (l .place) (l .j) (omega (arith, c .before .before .before .group-size .ensures)) (c .if1 .taken)) ∙ l .inv .2
+
+mul-value : tie.Need-mul-value Inv-loop μ-loop
+mul-value c = omega arith
+
+shared-slice-read-value : tie.Need-shared-slice-read-value Inv-loop μ-loop
+shared-slice-read-value c = omega arith
+
+kept-field-requires : tie.Need-kept-field-requires Inv-loop μ-loop
+kept-field-requires c κs = search needs
+
+fits-requires : tie.Need-fits-requires Inv-loop μ-loop
+fits-requires c κs = search needs
+
+returns-2 : tie.Need-returns-2 Inv-loop μ-loop
+unfolding groupSize
+returns-2 c =
+    let a = c .before .before .before .before .before .before .before .before .before .args in
+    let l = c .before .before .before .before .before .before .loop in
+    let t = judge-turn (widthsOf (a .kind)) (keptFields (a .kind)) (a .list .now) (l .place) (l .j) (omega (arith, c .before .before .before .before .before .before .before .group-size .ensures)) (c .before .before .before .before .if1 .left) in
+    let f = wide (getD (a .list .now) (l .place) 0) (widthsOf (a .kind)) (keptFields (a .kind)) (l .j) (c .before .before .kept-field .result) (c .before .before .kept-field .ensures) in
+    sym (rw (sym f ∙ sym (c .before .fits2 .ensures) ∙ not-true _ (c .if2 .taken)) at t) ∙ l .inv .2
+
+add-place : tie.Need-add-place Inv-loop μ-loop
+add-place c = omega arith
+
+add-j : tie.Need-add-j Inv-loop μ-loop
+add-j c = omega arith
+
+loop-less : tie.Need-loop-less Inv-loop μ-loop
+loop-less c = omega arith
+
+loop-again : tie.Need-loop-again Inv-loop μ-loop
+unfolding groupSize
+loop-again c =
+    let a = c .before .before .before .before .before .before .before .before .before .args in
+    let l = c .before .before .before .before .before .before .loop in
+    let t = judge-turn (widthsOf (a .kind)) (keptFields (a .kind)) (a .list .now) (l .place) (l .j) (omega (arith, c .before .before .before .before .before .before .before .group-size .ensures)) (c .before .before .before .before .if1 .left) in
+    let f = wide (getD (a .list .now) (l .place) 0) (widthsOf (a .kind)) (keptFields (a .kind)) (l .j) (c .before .before .kept-field .result) (c .before .before .kept-field .ensures) in
+    (omega arith, omega arith, sym (rw (sym f ∙ sym (c .before .fits2 .ensures) ∙ not-false _ (c .if2 .left)) at t) ∙ l .inv .2)
+
+returns-3 : tie.Need-returns-3 Inv-loop μ-loop
+unfolding groupSize
+returns-3 c =
+    let a = c .before .before .before .before .args in
+    let l = c .before .loop in
+    sym (judge-end (widthsOf (a .kind)) (keptFields (a .kind)) (a .list .now) (l .place) (l .j) (omega (arith, c .before .before .group-size .ensures))) ∙ l .inv .2
+
+pub judge-spec : {M : Type 1} → statement M
+judge-spec =
+    tie.close
+    (tie.spec
+    Inv-loop
+    μ-loop
+    group-size-requires
+    loop-holds
+    returns
+    mul-value
+    shared-slice-read-value
+    kept-field-requires
+    fits-requires
+    returns-2
+    add-place
+    add-j
+    loop-less
+    loop-again
+    returns-3)
