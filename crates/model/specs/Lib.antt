@@ -17,6 +17,7 @@ pub mod Terms
 pub mod Steps
 pub mod Moves
 pub mod Damage
+pub mod Calls
 pub mod WordExamples
 pub mod Examples
 pub mod SpreadExamples

@@ -4,7 +4,7 @@ use Prim.Native.Nat.{ℕ, _+_, _*_}
 use Rattle.model.specs.declared.Fault.{Fault}
 use Rattle.model.specs.declared.Fault.the-variants.{EmptyImage, WrongEdition, NoPredicates, ZeroField, LengthField, EndsEarly, FirstClause, ClauseExpected, VariableCount, GoalCount, ArgumentExpected, VariableNumber, GoalExpected, NoSuchPredicate, UnusedVariable, ClauseLength, LeftOver}
 use Rattle.model.specs.declared.Refusal.{Refusal}
-use Rattle.model.specs.declared.Refusal.the-variants.{Image, Query, TooWide, ListEnds, Room, UnknownOp}
+use Rattle.model.specs.declared.Refusal.the-variants.{Image, Query, TooWide, ListEnds, Room, UnknownOp, SliceLength, Damaged, NoWorker, NoSlot, NoAnswer}
 use Rattle.model.specs.declared.Verdict.{Verdict}
 use Rattle.model.specs.declared.Verdict.the-variants.{Legal, Refused}
 use Rattle.model.specs.declared.Written.{Written}
@@ -37,6 +37,11 @@ refusalNumber TooWide = 18
 refusalNumber ListEnds = 19
 refusalNumber Room = 26
 refusalNumber UnknownOp = 29
+refusalNumber SliceLength = 20
+refusalNumber Damaged = 21
+refusalNumber NoWorker = 22
+refusalNumber NoSlot = 23
+refusalNumber NoAnswer = 25
 
 -- as one number: number times 2^32 plus position, 0 if legal
 abbrev pub verdictNumber : Verdict → ℕ

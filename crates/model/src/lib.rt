@@ -50,6 +50,11 @@ pub enum Refusal {
     ListEnds,
     Room,
     UnknownOp,
+    SliceLength,
+    Damaged,
+    NoWorker,
+    NoSlot,
+    NoAnswer,
 }
 
 // What a check answers: legal, or the refusal and the position.
@@ -112,4 +117,22 @@ pub enum Outcome {
     Finished,
     Spent,
     Full,
+}
+
+// What a step answers: the outcome and the worker's slot, or the refusal and the position.
+pub enum StepAnswer {
+    Done(Outcome, u32),
+    Refused(Refusal, usize),
+}
+
+// What a run answers: the outcome, the worker's slot and the steps counted, or the refusal and the position.
+pub enum RunAnswer {
+    Done(Outcome, u32, u32),
+    Refused(Refusal, usize),
+}
+
+// What a move answers: the entries passed on both legs, or the refusal and the position.
+pub enum MoveAnswer {
+    Done(u32),
+    Refused(Refusal, usize),
 }

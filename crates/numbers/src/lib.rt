@@ -39,5 +39,10 @@ pub fn refusal_number(refusal: Refusal) -> u32
         Refusal::ListEnds => 19,
         Refusal::Room => 26,
         Refusal::UnknownOp => 29,
+        Refusal::SliceLength => 20,
+        Refusal::Damaged => 21,
+        Refusal::NoWorker => 22,
+        Refusal::NoSlot => 23,
+        Refusal::NoAnswer => 25,
     }
 }

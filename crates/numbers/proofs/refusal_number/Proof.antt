@@ -35,6 +35,21 @@ enum-told-3 c = search needs
 enum-told-4 : tie.Need-enum-told-4
 enum-told-4 c = search needs
 
+enum-told-5 : tie.Need-enum-told-5
+enum-told-5 c = search needs
+
+enum-told-6 : tie.Need-enum-told-6
+enum-told-6 c = search needs
+
+enum-told-7 : tie.Need-enum-told-7
+enum-told-7 c = search needs
+
+enum-told-8 : tie.Need-enum-told-8
+enum-told-8 c = search needs
+
+enum-told-9 : tie.Need-enum-told-9
+enum-told-9 c = search needs
+
 returns : tie.Need-returns
 returns c = c .fault-number .ensures ∙ ap refusalNumber (sym (c .before .before .refusal .given .1))
 
@@ -53,6 +68,21 @@ returns-5 c = ap refusalNumber (sym (c .enum-told3 .given .1))
 returns-6 : tie.Need-returns-6
 returns-6 c = ap refusalNumber (sym (c .enum-told4 .given .1))
 
+returns-7 : tie.Need-returns-7
+returns-7 c = ap refusalNumber (sym (c .enum-told5 .given .1))
+
+returns-8 : tie.Need-returns-8
+returns-8 c = ap refusalNumber (sym (c .enum-told6 .given .1))
+
+returns-9 : tie.Need-returns-9
+returns-9 c = ap refusalNumber (sym (c .enum-told7 .given .1))
+
+returns-10 : tie.Need-returns-10
+returns-10 c = ap refusalNumber (sym (c .enum-told8 .given .1))
+
+returns-11 : tie.Need-returns-11
+returns-11 c = ap refusalNumber (sym (c .enum-told9 .given .1))
+
 pub refusal-number-spec : {M : Type 1} → statement M
 refusal-number-spec =
     tie.close
@@ -66,9 +96,19 @@ refusal-number-spec =
     enum-told-2
     enum-told-3
     enum-told-4
+    enum-told-5
+    enum-told-6
+    enum-told-7
+    enum-told-8
+    enum-told-9
     returns
     returns-2
     returns-3
     returns-4
     returns-5
-    returns-6)
+    returns-6
+    returns-7
+    returns-8
+    returns-9
+    returns-10
+    returns-11)
