@@ -144,6 +144,7 @@ fn with_goal<'a>(
     memory::tried(nodes, slot) <= words::clause_count(called_word(image, query, nodes, slot))
 }
 
+// A slot's goal fields hold a first goal, and the clauses tried go with it.
 fn goal_sound<'a>(
     image: &'a [u32],
     query: &'a [u32],
@@ -257,6 +258,7 @@ fn slot_sound<'a>(
     bindings::trail_sound(nodes, cells, trail, slot)
 }
 
+// All slots' links.
 fn slots_linked<'a>(
     image: &'a [u32],
     query: &'a [u32],
@@ -278,6 +280,7 @@ fn slots_linked<'a>(
     true
 }
 
+// All slots' clauses, cells and trails.
 fn slots_sound<'a>(
     image: &'a [u32],
     query: &'a [u32],
@@ -340,6 +343,7 @@ fn worker_sound(nodes: &[u32], trail: &[u32], arrays: &[u32], workers: &[u32], w
     array_sound(nodes, trail, arrays, worker, slot)
 }
 
+// All workers.
 fn workers_sound(nodes: &[u32], trail: &[u32], arrays: &[u32], workers: &[u32]) -> bool
     ensures { λ r. ⌜ r ≡ each 4 (workerSound (now (nodes .entry)) (now (trail .entry)) (now (arrays .entry)) (now (workers .entry))) 0 ⌝ }
 {

@@ -228,6 +228,7 @@ pub fn trail_sound(nodes: &[u32], cells: &[u32], trail: &[u32], slot: u32) -> bo
     )
 }
 
+// The root has no trail entries.
 fn no_trail_at_root(slot: u32, count: u32) -> bool
     ensures { λ r. ⌜ r ≡ (not (eqb slot 0) || eqb count 0) ⌝ }
 {
