@@ -84,7 +84,7 @@ pub firstClause-lt : (word : ℕ) → firstClause word < 131072
 unfolding widthsOf
 firstClause-lt word = field-lt (widthsOf Predicate) word 3
 
--- the climb: a goal remains here, there is nothing above, or it goes on
+-- the climb: a goal remains here, there is nothing above, this is the root, or it goes on
 module _ (image query nodes : List ℕ) (slot index : ℕ) where
   pub nextGoal-here : (depth : ℕ) → index + 1 < goalsOf image query nodes slot → Goal slot (index + 1) ≡ nextGoal depth image query nodes slot index
   unfolding nextGoal
@@ -96,13 +96,18 @@ module _ (image query nodes : List ℕ) (slot index : ℕ) where
   nextGoal-top zero h z = simp (le-ltb (index + 1) (goalsOf image query nodes slot) h)
   nextGoal-top (suc depth) h z = absurd (omega arith)
 
-  pub nextGoal-up : (depth : ℕ) → goalsOf image query nodes slot ≤ index + 1 → 0 < depth
+  pub nextGoal-root : (depth : ℕ) → goalsOf image query nodes slot ≤ index + 1 → slot ≡ 0 → NoGoal ≡ nextGoal depth image query nodes slot index
+  unfolding nextGoal
+  nextGoal-root zero h r = simp (le-ltb (index + 1) (goalsOf image query nodes slot) h)
+  nextGoal-root (suc depth) h r = rw (le-ltb (index + 1) (goalsOf image query nodes slot) h, eq-eqb slot 0 r, nextGoal) refl
+
+  pub nextGoal-up : (depth : ℕ) → goalsOf image query nodes slot ≤ index + 1 → 0 < depth → (slot ≡ 0 → ⊥)
       → nextGoal (depth - 1) image query nodes (frame nodes (parent nodes slot)) (goalIndex nodes (parent nodes slot)) ≡ nextGoal depth image query nodes slot index
   unfolding nextGoal
-  nextGoal-up zero h z = absurd (omega arith)
-  nextGoal-up (suc depth) h z =
+  nextGoal-up zero h z n = absurd (omega arith)
+  nextGoal-up (suc depth) h z n =
       let s : suc depth - 1 ≡ depth = omega arith in
-      rw (s, le-ltb (index + 1) (goalsOf image query nodes slot) h, nextGoal) refl
+      rw (s, le-ltb (index + 1) (goalsOf image query nodes slot) h, ne-eqb slot 0 n, nextGoal) refl
 
 clauseFrom-le : (image : List ℕ) (clauses at : ℕ) → clauseFrom image at clauses ≤ at + 65535 * clauses
 unfolding clauseFrom clauseNext

@@ -113,6 +113,9 @@ pub fn next_goal<'a>(
     if depth == 0 {
         return FirstGoal::NoGoal;
     }
+    if slot == 0 {
+        return FirstGoal::NoGoal;
+    }
     let above = memory::parent(nodes, slot);
     next_goal(
         image,

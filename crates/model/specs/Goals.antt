@@ -29,14 +29,18 @@ abbrev pub goalsOf : List ℕ → List ℕ → List ℕ → ℕ → ℕ
 goalsOf image query nodes slot = goalCount (getD (clauseWords image query nodes slot) (clausePosition nodes slot) 0)
 
 -- "its goals are the clause's goals, then the parent's goals without the first. So the next goal is found by climbing from frame to parent frame":
--- the goal behind the one at an index of a slot's clause, depth falling
+-- the goal behind the one at an index of a slot's clause, depth falling; behind the query's last goal there is none, however far the climb came at once
 unfoldable pub nextGoal : ℕ → List ℕ → List ℕ → List ℕ → ℕ → ℕ → FirstGoal
 nextGoal zero image query nodes slot index =
     cond (ltb (index + 1) (goalsOf image query nodes slot)) (Goal slot (index + 1)) NoGoal
 nextGoal (suc above) image query nodes slot index =
     elim (ltb (index + 1) (goalsOf image query nodes slot)) [
       | true ↦ Goal slot (index + 1)
-      | false ↦ nextGoal above image query nodes (frame nodes (parent nodes slot)) (goalIndex nodes (parent nodes slot))
+      | false ↦
+          elim (eqb slot 0) [
+            | true ↦ NoGoal
+            | false ↦ nextGoal above image query nodes (frame nodes (parent nodes slot)) (goalIndex nodes (parent nodes slot))
+          ]
     ]
 
 -- the first goal of a child that a clause with so many goals makes, in a slot, of a node whose first goal stands at an index of a frame

@@ -7,7 +7,7 @@ use borrow.Fn.Kinds.{In}
 use borrow.Fn.PlainCycle.{Measures, is, falls, and}
 use Rattle.model.specs.Memory.{frame, goalIndex}
 use Rattle.model.specs.Goals.{nextGoal}
-use Rattle.goals.proofs.PlaceLaws.{goalIndex-lt, nextGoal-here, nextGoal-top, nextGoal-up}
+use Rattle.goals.proofs.PlaceLaws.{goalIndex-lt, nextGoal-here, nextGoal-top, nextGoal-root, nextGoal-up}
 use Rattle.goals.proofs.next_goal.Reads as next-goal
 use Rattle.goals.proofs.next_goal.Kinds as next-goal-kinds
 use Rattle.goals.proofs.+next_goal.Lts-next_goal as next-goal-lts
@@ -102,6 +102,22 @@ next-goal-returns-2 t c =
     let a = c .before .before .before .before .before .before .args in
     nextGoal-top (a .image .now) (a .query .now) (a .nodes .now) (a .slot) (a .index) (a .depth) (omega (arith, c .before .before .goals-of .ensures)) (c .if2 .taken)
 
+next-goal-returns-3 : (t : ℕ) → next-goal-lts.Need-returns-3 (
+  goals-of-reads.Asked,
+  goals-of-reads.Learnt,
+  parent-reads.Asked,
+  parent-reads.Learnt,
+  frame-reads.Asked,
+  frame-reads.Learnt,
+  goal-index-reads.Asked,
+  goal-index-reads.Learnt,
+  next-goal-below t,
+  next-goal.Post,
+) (next-goal-at t) next-goal.Post
+next-goal-returns-3 t c =
+    let a = c .before .before .before .before .before .before .before .args in
+    nextGoal-root (a .image .now) (a .query .now) (a .nodes .now) (a .slot) (a .index) (a .depth) (omega (arith, c .before .before .before .goals-of .ensures)) (c .if3 .taken)
+
 next-goal-parent-requires : (t : ℕ) → next-goal-lts.Need-parent-requires (
   goals-of-reads.Asked,
   goals-of-reads.Learnt,
@@ -171,10 +187,10 @@ next-goal-next-goal-requires : (t : ℕ) → next-goal-lts.Need-next-goal-requir
   next-goal.Post,
 ) (next-goal-at t) next-goal.Post
 next-goal-next-goal-requires t c κs =
-    let a = c .before .before .before .before .before .before .before .before .before .args in
-    (omega (arith, c .before .before .before .before .before .before .before .before .before .pre .0), omega (arith, c .goal-index .ensures, goalIndex-lt (a .nodes .now) (c .before .before .parent .result)))
+    let a = c .before .before .before .before .before .before .before .before .before .before .args in
+    (omega (arith, c .before .before .before .before .before .before .before .before .before .before .pre .0), omega (arith, c .goal-index .ensures, goalIndex-lt (a .nodes .now) (c .before .before .parent .result)))
 
-next-goal-returns-3 : (t : ℕ) → next-goal-lts.Need-returns-3 (
+next-goal-returns-4 : (t : ℕ) → next-goal-lts.Need-returns-4 (
   goals-of-reads.Asked,
   goals-of-reads.Learnt,
   parent-reads.Asked,
@@ -186,12 +202,12 @@ next-goal-returns-3 : (t : ℕ) → next-goal-lts.Need-returns-3 (
   next-goal-below t,
   next-goal.Post,
 ) (next-goal-at t) next-goal.Post
-next-goal-returns-3 t c =
-    let a = c .before .before .before .before .before .before .before .before .before .before .args in
+next-goal-returns-4 t c =
+    let a = c .before .before .before .before .before .before .before .before .before .before .before .args in
     let up = c .before .before .before .parent .ensures in
     c .next-goal .ensures
     ∙ ap₂ (λ (slot index : ℕ). nextGoal (a .depth - 1) (a .image .now) (a .query .now) (a .nodes .now) slot index) (c .before .before .frame .ensures ∙ ap (frame (a .nodes .now)) up) (c .before .goal-index .ensures ∙ ap (goalIndex (a .nodes .now)) up)
-    ∙ nextGoal-up (a .image .now) (a .query .now) (a .nodes .now) (a .slot) (a .index) (a .depth) (omega (arith, c .before .before .before .before .before .before .goals-of .ensures)) (omega arith)
+    ∙ nextGoal-up (a .image .now) (a .query .now) (a .nodes .now) (a .slot) (a .index) (a .depth) (omega (arith, c .before .before .before .before .before .before .before .goals-of .ensures)) (omega arith) (c .before .before .before .before .if3 .left)
 
 pub +next-goal-spec : {M : Type 1} → statement M
 +next-goal-spec = close μ-next-goal λ t. next-goal-lts.spec (
@@ -213,9 +229,10 @@ pub +next-goal-spec : {M : Type 1} → statement M
     (next-goal-add-t11 t)
     (next-goal-returns t)
     (next-goal-returns-2 t)
+    (next-goal-returns-3 t)
     (next-goal-parent-requires t)
     (next-goal-sub-next-goal t)
     (next-goal-frame-requires t)
     (next-goal-goal-index-requires t)
     (next-goal-next-goal-requires t)
-    (next-goal-returns-3 t)
+    (next-goal-returns-4 t)
