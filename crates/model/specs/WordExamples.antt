@@ -1,4 +1,4 @@
--- Document 01, "Bench examples", P6 to P11 on words: proved together, as one statement over a list. Assumes nothing.
+-- Document 01, "Bench examples", P6 to P11 on words, and one of our own: proved together, as one statement over a list. Assumes nothing.
 use mathlib.Core.Bool.{Bool, true, false, _&&_}
 use mathlib.Core.List.{List, [], _∷_}
 use Prim.Native.Nat.{ℕ}
@@ -68,6 +68,10 @@ deskQuery = 0x80410003 ∷ 0x90000000 ∷ 0x10000000 ∷ []
 abbrev pairImage : List ℕ
 pairImage = 0x10040005 ∷ 0x20020002 ∷ 0x80400003 ∷ 0x10000000 ∷ 0x10000000 ∷ []
 
+-- p.  q :- p.
+abbrev chainImage : List ℕ
+chainImage = 0x10080006 ∷ 0x00020003 ∷ 0x00020004 ∷ 0x80000001 ∷ 0x80010002 ∷ 0x90000000 ∷ []
+
 abbrev pub wordExamples : List WordExample
 wordExamples =
     -- P6 outcomes: 2, 3, 2, 3, 6
@@ -85,6 +89,9 @@ wordExamples =
     (steps 0 2 1 ∷ trailWord 32 1 ∷ trailWord 33 0x20000000 ∷ trailWord 34 0 ∷ reads 0 (0x10000000 ∷ 0x10000000 ∷ []) ∷ [])
     -- P11 q(X,X): no entry
     ∷ wordExample pairImage (0x80410004 ∷ 0x90000000 ∷ 0x10000000 ∷ 0x10000000 ∷ []) (steps 0 2 1 ∷ trailWord 32 0 ∷ reads 0 (0x10000000 ∷ []) ∷ [])
+    -- p, q: the climb from q's clause comes to the root at once, and there is no goal behind the query's last
+    ∷ wordExample chainImage (0x80020003 ∷ 0x90000000 ∷ 0x90040000 ∷ [])
+    (steps 0 1 1 ∷ steps 0 1 2 ∷ steps 0 2 3 ∷ steps 0 3 2 ∷ steps 0 3 1 ∷ steps 0 3 0 ∷ steps 0 6 0 ∷ [])
     ∷ []
 
 pub word-examples : T (allSeen wordExamples)
