@@ -53,6 +53,50 @@ enum cumbwael_fault {
     CUMBWAEL_LEFT_OVER = 17          /* words left over (the first of them) */
 };
 
+/* What the other calls answer. Every field is written on every call, and is 0 where it does not apply. */
+struct cumbwael_answer {
+    uint32_t refusal;  /* 0 if the call was done, else the number of the refusal: of enum cumbwael_fault or cumbwael_refusal */
+    uint32_t position; /* of a refusal: the place in the list or the word of the image, counted from 0 */
+    uint32_t outcome;  /* of a step or a run; 0 for the calls below */
+    uint32_t slot;     /* of a step or a run; 0 for the calls below */
+    uint32_t count;    /* the words written into the room; 0 on a refusal */
+};
+
+/* Why packing or unpacking is refused, beside the faults of the image. */
+enum cumbwael_refusal {
+    CUMBWAEL_TOO_WIDE = 18,  /* a value too wide for its field (its place in the list) */
+    CUMBWAEL_LIST_ENDS = 19, /* list ends inside a word's group (the list's length) */
+    CUMBWAEL_ROOM = 26,      /* too little room (0) */
+    CUMBWAEL_UNKNOWN_OP = 29 /* op is none of 1, 2, 8, 9 (its place in the list) */
+};
+
+/* From a spread list, one field per word with the zero fields dropped, to the image that it is the spread form of.
+ *
+ * list, length  the list and its length in elements; every length is taken, and if it is 0 the list is not read
+ * room, size    where the image goes, and its size in elements; must not overlap the list
+ *
+ * Refused, in this order: 19, 29 or 18, whichever stands first in the list; 1 to 17, at the packed word; 26. On a
+ * refusal every word of the room is as it was. Otherwise the image is legal and stands in the first `count` words of
+ * the room, and the words past it are as they were. An image has at most 131,071 words, so a room of so many never
+ * gives 26. The position of 18, 19 and 29 is at most the list's length; one past 4294967295 is given as 4294967295.
+ *
+ * Stack: 516 KiB at the most; a thread that calls it must have them.
+ */
+struct cumbwael_answer cumbwael_pack(const uint32_t *list, size_t length, uint32_t *room, size_t size);
+
+/* From a legal image, as words, to its spread form.
+ *
+ * image, length  the image and its length in elements; every length is taken, and if it is 0 the image is not read
+ * room, size     where the list goes, and its size in elements; must not overlap the image
+ *
+ * Refused: 1 to 17 at the image's word, then 26. On a refusal every word of the room is as it was. Otherwise the list
+ * stands in the first `count` words of the room, and the words past it are as they were. cumbwael_pack makes the same
+ * image of it. A word has at most four values, so a room of 4 * length never gives 26.
+ *
+ * Stack: 4 KiB at the most.
+ */
+struct cumbwael_answer cumbwael_unpack(const uint32_t *image, size_t length, uint32_t *room, size_t size);
+
 #ifdef __cplusplus
 }
 #endif

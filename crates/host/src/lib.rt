@@ -2,13 +2,26 @@
 use model::Fault;
 use model::Refusal;
 use model::Verdict;
+use model::Written;
 ghost use mathlib.Core.Path.{_≡_};
-ghost use Prim.Native.Nat.{_+_, _*_, _≤_, _<_};
+ghost use Prim.Native.Nat.{_+_, _*_, _≤_, _<_, min};
 ghost use lib.ListN.{length};
 ghost use Rattle.model.specs.Numbers.{verdictNumber};
 ghost use Rattle.model.specs.Image.{checkImage};
 ghost use Rattle.model.specs.Bytes.{wordOfBytes, wordsFrom, checkBytes};
+ghost use Rattle.model.specs.Spread.{pack, unpack};
 ghost use Rattle.host.specs.Near.{Near};
+ghost use Rattle.host.specs.Answers.{answerOf};
+
+// What every other call answers: the number of the refusal, 0 if there is none, and its position; else what was done. What does not apply is 0.
+#[repr(C)]
+pub struct Answer {
+    pub refusal: u32,
+    pub position: u32,
+    pub outcome: u32,
+    pub slot: u32,
+    pub count: u32,
+}
 
 // Number times 2^32 plus position, 0 if legal.
 fn verdict_number(verdict: Verdict) -> u64
@@ -83,4 +96,51 @@ pub extern "C" fn cumbwael_check(bytes: &[u8]) -> u64
         return check_small(bytes, count);
     }
     check_large(bytes, count)
+}
+
+// A position or a count in 32 bits: the greatest number stands for itself and for all above it.
+fn cut(n: usize) -> u32
+    ensures { λ r. ⌜ r ≡ min n 4294967295 ⌝ }
+{
+    if 4294967295 < n {
+        return 4294967295;
+    }
+    n as u32
+}
+
+fn answer_of(written: Written) -> Answer
+    ensures { λ r. ⌜ r ≡ answerOf written ⌝ }
+{
+    match written {
+        Written::Done(count) => Answer {
+            refusal: 0,
+            position: 0,
+            outcome: 0,
+            slot: 0,
+            count: cut(count),
+        },
+        Written::Refused(refusal, at) => Answer {
+            refusal: numbers::refusal_number(refusal),
+            position: cut(at),
+            outcome: 0,
+            slot: 0,
+            count: 0,
+        },
+    }
+}
+
+// From a spread list to the image that it is the spread form of.
+#[no_mangle]
+pub extern "C" fn cumbwael_pack(list: &[u32], room: &mut [u32]) -> Answer
+    ensures { λ r. ⌜ (r ≡ answerOf (pack (now (list .entry)) (now (room .entry)) .answer)) × (now (room .exit) ≡ pack (now (list .entry)) (now (room .entry)) .room) ⌝ }
+{
+    answer_of(spread::pack(list, room))
+}
+
+// From a legal image to its spread form.
+#[no_mangle]
+pub extern "C" fn cumbwael_unpack(image: &[u32], room: &mut [u32]) -> Answer
+    ensures { λ r. ⌜ (r ≡ answerOf (unpack (now (image .entry)) (now (room .entry)) .answer)) × (now (room .exit) ≡ unpack (now (image .entry)) (now (room .entry)) .room) ⌝ }
+{
+    answer_of(spread::unpack(image, room))
 }

@@ -125,14 +125,35 @@ fn pack_beside(list: &[u32], words: &mut [u32], room: &mut [u32]) -> Written
     }
 }
 
-// 131,072 words are 512 KB of stack.
-fn pack_short(list: &[u32], count: usize, room: &mut [u32]) -> Written
+// 131,072 words are 512 KiB of stack.
+fn pack_large(list: &[u32], count: usize, room: &mut [u32]) -> Written
     requires { ⌜ scan (now list) ≡ Scan.Through count ⌝ }
     requires { ⌜ count < 131072 ⌝ }
     ensures { λ r. ⌜ writtenTo r (now (room .exit)) ≡ pack (now (list .entry)) (now (room .entry)) ⌝ }
 {
     let mut words = [0u32; 131072];
     pack_beside(list, &mut words[..count], room)
+}
+
+// For a small image the words of the largest are not filled.
+fn pack_small(list: &[u32], count: usize, room: &mut [u32]) -> Written
+    requires { ⌜ scan (now list) ≡ Scan.Through count ⌝ }
+    requires { ⌜ count < 1024 ⌝ }
+    ensures { λ r. ⌜ writtenTo r (now (room .exit)) ≡ pack (now (list .entry)) (now (room .entry)) ⌝ }
+{
+    let mut words = [0u32; 1024];
+    pack_beside(list, &mut words[..count], room)
+}
+
+fn pack_short(list: &[u32], count: usize, room: &mut [u32]) -> Written
+    requires { ⌜ scan (now list) ≡ Scan.Through count ⌝ }
+    requires { ⌜ count < 131072 ⌝ }
+    ensures { λ r. ⌜ writtenTo r (now (room .exit)) ≡ pack (now (list .entry)) (now (room .entry)) ⌝ }
+{
+    if count < 1024 {
+        return pack_small(list, count, room);
+    }
+    pack_large(list, count, room)
 }
 
 // From a spread list to the image that it is the spread form of.

@@ -1,11 +1,11 @@
--- `spread::pack_short` meets its contract. Assumes nothing.
+-- `spread::pack_large` meets its contract. Assumes nothing.
 use mathlib.Core.Path.{ap, _∙_}
 use native.Mathlib.Omega.{arith}
 use borrow.Author.Needs.{needs}
 use Rattle.model.specs.declared.Scan.the-variants.{Through}
 use Rattle.spread.proofs.AnswerLaws.{part-length}
-use Rattle.spread.proofs.pack_short.Statement.{statement}
-use Rattle.spread.proofs.pack_short.Tie as tie
+use Rattle.spread.proofs.pack_large.Statement.{statement}
+use Rattle.spread.proofs.pack_large.Tie as tie
 
 array-borrow-prefix-words : tie.Need-array-borrow-prefix-words
 array-borrow-prefix-words c = search needs
@@ -22,8 +22,8 @@ same-length c = search needs
 returns : tie.Need-returns
 returns c = search needs
 
-pub pack-short-spec : {M : Type 1} → statement M
-pack-short-spec =
+pub pack-large-spec : {M : Type 1} → statement M
+pack-large-spec =
     tie.close
     (tie.spec
     array-borrow-prefix-words
