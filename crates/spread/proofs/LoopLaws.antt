@@ -67,10 +67,6 @@ module _ (widths kept room : List ℕ) (word at j : ℕ) where
   unfolding spreadFields
   spread-end h = rw (drop-of-length-le kept h) refl
 
--- the field that was looked up is the group's
-pub wide : (value : ℕ) (widths kept : List ℕ) (j i : ℕ) → i ≡ getD kept j 0 → ltb value (2 ^ getD widths i 0) ≡ ltb value (2 ^ getD widths (getD kept j 0) 0)
-wide value widths kept j i e = ap (λ (n : ℕ). ltb value (2 ^ getD widths n 0)) e
-
 -- one value of a group that is judged through
 pub record OneValue (widths kept list : List ℕ) (place j end : ℕ) : Type 0 where
   pub inside : place < length list

@@ -1,4 +1,6 @@
 // The groups of a spread list: which kind of word each is, and what is wrong at the first place in the list.
+use crate::kept::fits_kept;
+use crate::kept::size_of;
 use model::Kind;
 use model::Refusal;
 use model::Scan;
@@ -58,7 +60,7 @@ fn judge(list: &[u32], kind: Kind, at: usize) -> Scan
     requires { ⌜ at < length (now list) ⌝ }
     ensures { λ r. ⌜ r ≡ judged (widthsOf kind) (keptFields kind) at (drop at (now (list .entry))) ⌝ }
 {
-    let size = words::group_size(kind);
+    let size = size_of(kind);
     let mut place = at;
     let mut j: usize = 0;
     while j < size {
@@ -66,8 +68,7 @@ fn judge(list: &[u32], kind: Kind, at: usize) -> Scan
             return Scan::Stopped(Refusal::ListEnds, place);
         }
         let value = list[place];
-        let i = words::kept_field(kind, j);
-        if !words::fits(value, kind, i) {
+        if !fits_kept(value, kind, j) {
             return Scan::Stopped(Refusal::TooWide, place);
         }
         place += 1;

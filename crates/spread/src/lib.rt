@@ -1,9 +1,12 @@
 // Packing and unpacking the spread form: document 01, "Rule image", last paragraph.
 mod groups;
+mod kept;
 mod spreading;
 
 use groups::kind_at;
 use groups::scan_list;
+use kept::placed_kept;
+use kept::size_of;
 use model::Fault;
 use model::Kind;
 use model::Refusal;
@@ -25,14 +28,13 @@ fn join_group(list: &[u32], kind: Kind, at: usize) -> u32
     requires { ⌜ judged (widthsOf kind) (keptFields kind) at (drop at (now list)) ≡ Scan.Through (at + groupSize kind) ⌝ }
     ensures { λ r. ⌜ r ≡ packedWord kind (drop at (now (list .entry))) ⌝ }
 {
-    let size = words::group_size(kind);
+    let size = size_of(kind);
     let mut word: u32 = 0;
     let mut place = at;
     let mut j: usize = 0;
     while j < size {
         let value = list[place];
-        let i = words::kept_field(kind, j);
-        word += words::placed(value, kind, i);
+        word += placed_kept(value, kind, j);
         place += 1;
         j += 1;
     }
@@ -52,7 +54,7 @@ fn pack_words(list: &[u32], words: &mut [u32])
         let kind = kind_at(count, number, first);
         let word = join_group(list, kind, at);
         words[number] = word;
-        at += words::group_size(kind);
+        at += size_of(kind);
         number += 1;
     }
 }
@@ -138,7 +140,7 @@ fn pack_large(list: &[u32], count: usize, room: &mut [u32]) -> Written
 // For a small image the words of the largest are not filled.
 fn pack_small(list: &[u32], count: usize, room: &mut [u32]) -> Written
     requires { ⌜ scan (now list) ≡ Scan.Through count ⌝ }
-    requires { ⌜ count < 1024 ⌝ }
+    requires { ⌜ count ≤ 1024 ⌝ }
     ensures { λ r. ⌜ writtenTo r (now (room .exit)) ≡ pack (now (list .entry)) (now (room .entry)) ⌝ }
 {
     let mut words = [0u32; 1024];
@@ -150,7 +152,7 @@ fn pack_short(list: &[u32], count: usize, room: &mut [u32]) -> Written
     requires { ⌜ count < 131072 ⌝ }
     ensures { λ r. ⌜ writtenTo r (now (room .exit)) ≡ pack (now (list .entry)) (now (room .entry)) ⌝ }
 {
-    if count < 1024 {
+    if count <= 1024 {
         return pack_small(list, count, room);
     }
     pack_large(list, count, room)

@@ -1,5 +1,7 @@
 // The spread form of an image, word after word: its length, and writing it.
 use crate::groups::kind_at;
+use crate::kept::read_kept;
+use crate::kept::size_of;
 use model::Kind;
 ghost use mathlib.Core.Path.{_≡_};
 ghost use Prim.Native.Nat.{_+_, _≤_};
@@ -12,12 +14,11 @@ fn spread_word(word: u32, kind: Kind, at: usize, room: &mut [u32])
     requires { ⌜ at + groupSize kind ≤ length (now room) ⌝ }
     ensures { λ _. ⌜ now (room .exit) ≡ sets (now (room .entry)) at (spreadWord kind word) ⌝ }
 {
-    let size = words::group_size(kind);
+    let size = size_of(kind);
     let mut place = at;
     let mut j: usize = 0;
     while j < size {
-        let i = words::kept_field(kind, j);
-        room[place] = words::read(word, kind, i);
+        room[place] = read_kept(word, kind, j);
         place += 1;
         j += 1;
     }
@@ -33,7 +34,7 @@ pub fn spread_size(image: &[u32]) -> usize
     while i < image.len() {
         let word = image[i];
         let kind = kind_at(count, i, words::op(word));
-        size += words::group_size(kind);
+        size += size_of(kind);
         i += 1;
     }
     size
@@ -50,7 +51,7 @@ pub fn spread_words(image: &[u32], room: &mut [u32])
         let word = image[i];
         let kind = kind_at(count, i, words::op(word));
         spread_word(word, kind, at, room);
-        at += words::group_size(kind);
+        at += size_of(kind);
         i += 1;
     }
 }

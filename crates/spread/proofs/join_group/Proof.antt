@@ -1,6 +1,6 @@
 -- `spread::join_group` meets its contract. The loop's invariant: what is left to do gives the whole. Assumes nothing.
-use mathlib.Core.Path.{_≡_, sym, ap, subst, _∙_}
-use Prim.Native.Nat.{ℕ, _+_, _-_, _*_, _%_, _^_, _≤_, _<_}
+use mathlib.Core.Path.{_≡_, ap, _∙_}
+use Prim.Native.Nat.{ℕ, _+_, _-_, _*_, _^_, _≤_, _<_}
 use native.Mathlib.Omega.{arith}
 use native.Mathlib.Nat.{zero-add, mod-eq-of-lt}
 use lib.ListN.{length, getD, drop}
@@ -22,11 +22,11 @@ abbrev μ-loop : tie.MeasureT-loop
 -- the field's number is below the group's size, and at the end it is the size
 counted : (c : tie.In-loop Inv-loop μ-loop) → c .before .loop .j < length (keptFields (c .before .before .before .before .args .kind))
 unfolding groupSize
-counted c = omega (arith, c .before .before .group-size .ensures, c .loop-test .taken)
+counted c = omega (arith, c .before .before .size-of .ensures, c .loop-test .taken)
 
 ended : (c : tie.After-loop Inv-loop μ-loop) → length (keptFields (c .before .before .before .before .args .kind)) ≤ c .before .loop .j
 unfolding groupSize
-ended c = omega (arith, c .before .before .group-size .ensures, c .loop-test .left)
+ended c = omega (arith, c .before .before .size-of .ensures, c .loop-test .left)
 
 -- the value at the place, whose group is judged through
 value : (c : tie.In-loop Inv-loop μ-loop) → OneValue (widthsOf (c .before .before .before .before .args .kind)) (keptFields (c .before .before .before .before .args .kind)) (c .before .before .before .before .args .list .now) (c .before .loop .place) (c .before .loop .j) (c .before .before .before .before .args .at + groupSize (c .before .before .before .before .args .kind))
@@ -35,8 +35,8 @@ value c =
     let l = c .before .loop in
     one-value (widthsOf (a .kind)) (keptFields (a .kind)) (a .list .now) (l .place) (l .j) (a .at + groupSize (a .kind)) (counted c) (l .inv .1)
 
-group-size-requires : tie.Need-group-size-requires Inv-loop μ-loop
-group-size-requires c κs = search needs
+size-of-requires : tie.Need-size-of-requires Inv-loop μ-loop
+size-of-requires c κs = search needs
 
 loop-holds : tie.Need-loop-holds Inv-loop μ-loop
 unfolding packedWord
@@ -48,44 +48,40 @@ mul-value c = omega (arith, value c .inside)
 shared-slice-read-value : tie.Need-shared-slice-read-value Inv-loop μ-loop
 shared-slice-read-value c = omega (arith, value (c .before) .inside)
 
-kept-field-requires : tie.Need-kept-field-requires Inv-loop μ-loop
-kept-field-requires c κs = search needs
-
-placed-requires : tie.Need-placed-requires Inv-loop μ-loop
-placed-requires c κs = search needs
+placed-kept-requires : tie.Need-placed-kept-requires Inv-loop μ-loop
+placed-kept-requires c κs = search needs
 
 -- a value that fits is placed whole
-whole : (c : tie.After-placed Inv-loop μ-loop) → c .placed .result ≡ getD (c .before .before .before .before .before .before .before .args .list .now) (c .before .before .before .before .loop .place) 0 * 2 ^ below (widthsOf (c .before .before .before .before .before .before .before .args .kind)) (getD (keptFields (c .before .before .before .before .before .before .before .args .kind)) (c .before .before .before .before .loop .j) 0)
+whole : (c : tie.After-placed-kept Inv-loop μ-loop) → c .placed-kept .result ≡ getD (c .before .before .before .before .before .before .args .list .now) (c .before .before .before .loop .place) 0 * 2 ^ below (widthsOf (c .before .before .before .before .before .before .args .kind)) (getD (keptFields (c .before .before .before .before .before .before .args .kind)) (c .before .before .before .loop .j) 0)
 whole c =
-    let a = c .before .before .before .before .before .before .before .args in
-    let l = c .before .before .before .before .loop in
+    let a = c .before .before .before .before .before .before .args in
+    let l = c .before .before .before .loop in
     let i = getD (keptFields (a .kind)) (l .j) 0 in
-    c .placed .ensures
-    ∙ ap (λ (n : ℕ). getD (a .list .now) (l .place) 0 % 2 ^ getD (widthsOf (a .kind)) n 0 * 2 ^ below (widthsOf (a .kind)) n) (c .before .kept-field .ensures)
-    ∙ ap (λ (v : ℕ). v * 2 ^ below (widthsOf (a .kind)) i) (mod-eq-of-lt (value (c .before .before .before) .fits))
+    c .placed-kept .ensures
+    ∙ ap (λ (v : ℕ). v * 2 ^ below (widthsOf (a .kind)) i) (mod-eq-of-lt (value (c .before .before) .fits))
 
 add-word : tie.Need-add-word Inv-loop μ-loop
 add-word c =
-    let a = c .before .before .before .before .before .before .before .args in
-    let l = c .before .before .before .before .loop in
-    let t = join-turn (widthsOf (a .kind)) (keptFields (a .kind)) (a .list .now) (l .place) (l .j) (counted (c .before .before .before)) (value (c .before .before .before) .inside) in
-    omega (arith, whole c, t, l .inv .2, joined-lt (a .kind) (a .at) (a .at + groupSize (a .kind)) (drop (a .at) (a .list .now)) (c .before .before .before .before .before .before .before .pre))
+    let a = c .before .before .before .before .before .before .args in
+    let l = c .before .before .before .loop in
+    let t = join-turn (widthsOf (a .kind)) (keptFields (a .kind)) (a .list .now) (l .place) (l .j) (counted (c .before .before)) (value (c .before .before) .inside) in
+    omega (arith, whole c, t, l .inv .2, joined-lt (a .kind) (a .at) (a .at + groupSize (a .kind)) (drop (a .at) (a .list .now)) (c .before .before .before .before .before .before .pre))
 
 add-place : tie.Need-add-place Inv-loop μ-loop
-add-place c = omega (arith, value (c .before .before .before) .inside)
+add-place c = omega (arith, value (c .before .before) .inside)
 
 add-j : tie.Need-add-j Inv-loop μ-loop
-add-j c = omega (arith, value (c .before .before .before) .inside)
+add-j c = omega (arith, value (c .before .before) .inside)
 
 loop-less : tie.Need-loop-less Inv-loop μ-loop
 loop-less c = omega arith
 
 loop-again : tie.Need-loop-again Inv-loop μ-loop
 loop-again c =
-    let a = c .before .before .before .before .before .before .before .args in
-    let l = c .before .before .before .before .loop in
-    let t = join-turn (widthsOf (a .kind)) (keptFields (a .kind)) (a .list .now) (l .place) (l .j) (counted (c .before .before .before)) (value (c .before .before .before) .inside) in
-    (omega arith, value (c .before .before .before) .others, omega (arith, whole c, t, l .inv .2))
+    let a = c .before .before .before .before .before .before .args in
+    let l = c .before .before .before .loop in
+    let t = join-turn (widthsOf (a .kind)) (keptFields (a .kind)) (a .list .now) (l .place) (l .j) (counted (c .before .before)) (value (c .before .before) .inside) in
+    (omega arith, value (c .before .before) .others, omega (arith, whole c, t, l .inv .2))
 
 returns : tie.Need-returns Inv-loop μ-loop
 returns c =
@@ -100,12 +96,11 @@ join-group-spec =
     (tie.spec
     Inv-loop
     μ-loop
-    group-size-requires
+    size-of-requires
     loop-holds
     mul-value
     shared-slice-read-value
-    kept-field-requires
-    placed-requires
+    placed-kept-requires
     add-word
     add-place
     add-j

@@ -35,8 +35,8 @@ inside c =
     omega (arith, n, ap length (step c .1 .packs))
 
 -- the place moves past it
-moved : (c : tie.After-group-size Inv-loop μ-loop) → c .before .before .before .before .before .loop .at + c .group-size .result ≡ step (c .before .before .before .before) .0
-moved c = omega (arith, c .group-size .ensures ∙ ap groupSize (c .before .before .kind-at .ensures), step (c .before .before .before .before) .1 .ends)
+moved : (c : tie.After-size-of Inv-loop μ-loop) → c .before .before .before .before .before .loop .at + c .size-of .result ≡ step (c .before .before .before .before) .0
+moved c = omega (arith, c .size-of .ensures ∙ ap groupSize (c .before .before .kind-at .ensures), step (c .before .before .before .before) .1 .ends)
 
 word-at-requires : tie.Need-word-at-requires Inv-loop μ-loop
 word-at-requires c κs = search needs
@@ -72,11 +72,11 @@ mul-words c = omega (arith, inside (c .before .before .before))
 slice-write-words : tie.Need-slice-write-words Inv-loop μ-loop
 slice-write-words c = omega (arith, inside (c .before .before .before), c .before .before .before .before .loop .inv .3)
 
-group-size-requires : tie.Need-group-size-requires Inv-loop μ-loop
-group-size-requires c κs = search needs
+size-of-requires : tie.Need-size-of-requires Inv-loop μ-loop
+size-of-requires c κs = search needs
 
 add-at : tie.Need-add-at Inv-loop μ-loop
-add-at c = omega (arith, c .group-size .ensures, step (c .before .before .before .before) .1 .inside, moved c)
+add-at c = omega (arith, c .size-of .ensures, step (c .before .before .before .before) .1 .inside, moved c)
 
 add-number : tie.Need-add-number Inv-loop μ-loop
 add-number c = omega (arith, inside (c .before .before .before .before))
@@ -123,7 +123,7 @@ pack-words-spec =
     join-group-requires
     mul-words
     slice-write-words
-    group-size-requires
+    size-of-requires
     add-at
     add-number
     loop-less

@@ -2,12 +2,11 @@
 use mathlib.Core.Path.{_≡_, refl, sym, _∙_}
 use Prim.Native.Nat.{_-_, _≤_}
 use native.Mathlib.Omega.{arith}
-use lib.ListN.{length, getD, drop}
+use lib.ListN.{length, drop}
 use borrow.Author.Needs.{needs}
 use borrow.Author.Tests.{not-true, not-false}
 use Rattle.model.specs.Spread.{groupSize, judged}
 use Rattle.model.specs.Fields.{widthsOf, keptFields}
-use Rattle.spread.proofs.LoopLaws.{wide}
 use Rattle.spread.proofs.LoopLaws.{judge-end, judge-short, judge-turn}
 use Rattle.spread.proofs.groups.judge.Statement.{statement}
 use Rattle.spread.proofs.groups.judge.Tie as tie
@@ -18,8 +17,8 @@ Inv-loop list kind at size place₀ j₀ place j = (j ≤ size) × (place ≤ le
 abbrev μ-loop : tie.MeasureT-loop
 μ-loop list kind at size place₀ j₀ place j = size - j
 
-group-size-requires : tie.Need-group-size-requires Inv-loop μ-loop
-group-size-requires c κs = search needs
+size-of-requires : tie.Need-size-of-requires Inv-loop μ-loop
+size-of-requires c κs = search needs
 
 loop-holds : tie.Need-loop-holds Inv-loop μ-loop
 loop-holds c = (omega arith, omega arith, refl)
@@ -29,7 +28,7 @@ unfolding groupSize
 returns c =
     let a = c .before .before .before .before .before .args in
     let l = c .before .before .loop in
-    sym (judge-short (widthsOf (a .kind)) (keptFields (a .kind)) (a .list .now) (l .place) (l .j) (omega (arith, c .before .before .before .group-size .ensures)) (c .if1 .taken)) ∙ l .inv .2
+    sym (judge-short (widthsOf (a .kind)) (keptFields (a .kind)) (a .list .now) (l .place) (l .j) (omega (arith, c .before .before .before .size-of .ensures)) (c .if1 .taken)) ∙ l .inv .2
 
 mul-value : tie.Need-mul-value Inv-loop μ-loop
 mul-value c = omega arith
@@ -37,20 +36,16 @@ mul-value c = omega arith
 shared-slice-read-value : tie.Need-shared-slice-read-value Inv-loop μ-loop
 shared-slice-read-value c = omega arith
 
-kept-field-requires : tie.Need-kept-field-requires Inv-loop μ-loop
-kept-field-requires c κs = search needs
-
-fits-requires : tie.Need-fits-requires Inv-loop μ-loop
-fits-requires c κs = search needs
+fits-kept-requires : tie.Need-fits-kept-requires Inv-loop μ-loop
+fits-kept-requires c κs = search needs
 
 returns-2 : tie.Need-returns-2 Inv-loop μ-loop
 unfolding groupSize
 returns-2 c =
-    let a = c .before .before .before .before .before .before .before .before .before .args in
-    let l = c .before .before .before .before .before .before .loop in
-    let t = judge-turn (widthsOf (a .kind)) (keptFields (a .kind)) (a .list .now) (l .place) (l .j) (omega (arith, c .before .before .before .before .before .before .before .group-size .ensures)) (c .before .before .before .before .if1 .left) in
-    let f = wide (getD (a .list .now) (l .place) 0) (widthsOf (a .kind)) (keptFields (a .kind)) (l .j) (c .before .before .kept-field .result) (c .before .before .kept-field .ensures) in
-    sym (rw (sym f ∙ sym (c .before .fits2 .ensures) ∙ not-true _ (c .if2 .taken)) at t) ∙ l .inv .2
+    let a = c .before .before .before .before .before .before .before .before .args in
+    let l = c .before .before .before .before .before .loop in
+    let t = judge-turn (widthsOf (a .kind)) (keptFields (a .kind)) (a .list .now) (l .place) (l .j) (omega (arith, c .before .before .before .before .before .before .size-of .ensures)) (c .before .before .before .if1 .left) in
+    sym (rw (sym (c .before .fits-kept .ensures) ∙ not-true _ (c .if2 .taken)) at t) ∙ l .inv .2
 
 add-place : tie.Need-add-place Inv-loop μ-loop
 add-place c = omega arith
@@ -64,18 +59,17 @@ loop-less c = omega arith
 loop-again : tie.Need-loop-again Inv-loop μ-loop
 unfolding groupSize
 loop-again c =
-    let a = c .before .before .before .before .before .before .before .before .before .args in
-    let l = c .before .before .before .before .before .before .loop in
-    let t = judge-turn (widthsOf (a .kind)) (keptFields (a .kind)) (a .list .now) (l .place) (l .j) (omega (arith, c .before .before .before .before .before .before .before .group-size .ensures)) (c .before .before .before .before .if1 .left) in
-    let f = wide (getD (a .list .now) (l .place) 0) (widthsOf (a .kind)) (keptFields (a .kind)) (l .j) (c .before .before .kept-field .result) (c .before .before .kept-field .ensures) in
-    (omega arith, omega arith, sym (rw (sym f ∙ sym (c .before .fits2 .ensures) ∙ not-false _ (c .if2 .left)) at t) ∙ l .inv .2)
+    let a = c .before .before .before .before .before .before .before .before .args in
+    let l = c .before .before .before .before .before .loop in
+    let t = judge-turn (widthsOf (a .kind)) (keptFields (a .kind)) (a .list .now) (l .place) (l .j) (omega (arith, c .before .before .before .before .before .before .size-of .ensures)) (c .before .before .before .if1 .left) in
+    (omega arith, omega arith, sym (rw (sym (c .before .fits-kept .ensures) ∙ not-false _ (c .if2 .left)) at t) ∙ l .inv .2)
 
 returns-3 : tie.Need-returns-3 Inv-loop μ-loop
 unfolding groupSize
 returns-3 c =
     let a = c .before .before .before .before .args in
     let l = c .before .loop in
-    sym (judge-end (widthsOf (a .kind)) (keptFields (a .kind)) (a .list .now) (l .place) (l .j) (omega (arith, c .before .before .group-size .ensures))) ∙ l .inv .2
+    sym (judge-end (widthsOf (a .kind)) (keptFields (a .kind)) (a .list .now) (l .place) (l .j) (omega (arith, c .before .before .size-of .ensures))) ∙ l .inv .2
 
 pub judge-spec : {M : Type 1} → statement M
 judge-spec =
@@ -83,13 +77,12 @@ judge-spec =
     (tie.spec
     Inv-loop
     μ-loop
-    group-size-requires
+    size-of-requires
     loop-holds
     returns
     mul-value
     shared-slice-read-value
-    kept-field-requires
-    fits-requires
+    fits-kept-requires
     returns-2
     add-place
     add-j

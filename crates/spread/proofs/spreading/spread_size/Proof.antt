@@ -49,13 +49,13 @@ op-requires c κs = search needs
 kind-at-requires : tie.Need-kind-at-requires Inv-loop μ-loop
 kind-at-requires c κs = search needs
 
-group-size-requires : tie.Need-group-size-requires Inv-loop μ-loop
-group-size-requires c κs = search needs
+size-of-requires : tie.Need-size-of-requires Inv-loop μ-loop
+size-of-requires c κs = search needs
 
 add-size : tie.Need-add-size Inv-loop μ-loop
 add-size c =
     let s = size (c .before) in
-    omega (arith, c .group-size .ensures, s .most)
+    omega (arith, c .size-of .ensures, s .most)
 
 add-i : tie.Need-add-i Inv-loop μ-loop
 add-i c = omega arith
@@ -68,9 +68,9 @@ loop-again c =
     let a = c .before .before .before .before .before .before .before .before .before .args in
     let l = c .before .before .before .before .before .loop in
     let s = size (c .before) in
-    let g = c .group-size .ensures ∙ ap groupSize (kinds (c .before)) in
+    let g = c .size-of .ensures ∙ ap groupSize (kinds (c .before)) in
     let t = unpack-less (c .before .before .before .before .before .before .predicate-count .result) (l .i) (a .image .now) (c .before .before .before .before .loop-test .taken) in
-    (omega arith, omega (arith, c .group-size .ensures, s .most), omega (arith, g, t, l .inv .2))
+    (omega arith, omega (arith, c .size-of .ensures, s .most), omega (arith, g, t, l .inv .2))
 
 returns : tie.Need-returns Inv-loop μ-loop
 returns c =
@@ -92,7 +92,7 @@ spread-size-spec =
     shared-slice-read-word
     op-requires
     kind-at-requires
-    group-size-requires
+    size-of-requires
     add-size
     add-i
     loop-less

@@ -6,7 +6,7 @@ use lib.Seq.{sets}
 use lib.ListN.{length, drop, set, length-set}
 use borrow.Author.Needs.{needs}
 use Rattle.model.specs.Spread.{spreadFields, spreadWord, groupSize}
-use Rattle.model.specs.Fields.{widthsOf, keptFields, field}
+use Rattle.model.specs.Fields.{widthsOf, keptFields}
 use Rattle.spread.proofs.LoopLaws.{spread-turn, spread-end}
 use Rattle.spread.proofs.spreading.spread_word.Statement.{statement}
 use Rattle.spread.proofs.spreading.spread_word.Tie as tie
@@ -17,30 +17,27 @@ Inv-loop word kind at room₀ size place₀ j₀ room place j = (j ≤ size) × 
 abbrev μ-loop : tie.MeasureT-loop
 μ-loop word kind at room₀ size place₀ j₀ room place j = size - j
 
-group-size-requires : tie.Need-group-size-requires Inv-loop μ-loop
-group-size-requires c κs = search needs
+size-of-requires : tie.Need-size-of-requires Inv-loop μ-loop
+size-of-requires c κs = search needs
 
 loop-holds : tie.Need-loop-holds Inv-loop μ-loop
 unfolding spreadWord
 loop-holds c = (omega arith, omega arith, refl, refl)
 
-kept-field-requires : tie.Need-kept-field-requires Inv-loop μ-loop
-kept-field-requires c κs = search needs
-
-read-requires : tie.Need-read-requires Inv-loop μ-loop
-read-requires c κs = search needs
+read-kept-requires : tie.Need-read-kept-requires Inv-loop μ-loop
+read-kept-requires c κs = search needs
 
 mul-room : tie.Need-mul-room Inv-loop μ-loop
-mul-room c = omega (arith, c .before .before .before .before .group-size .ensures, c .before .before .before .before .before .before .pre)
+mul-room c = omega (arith, c .before .before .before .size-of .ensures, c .before .before .before .before .before .pre)
 
 slice-write-room : tie.Need-slice-write-room Inv-loop μ-loop
-slice-write-room c = omega (arith, c .before .before .before .before .group-size .ensures, c .before .before .before .before .before .before .pre)
+slice-write-room c = omega (arith, c .before .before .before .size-of .ensures, c .before .before .before .before .before .pre)
 
 add-place : tie.Need-add-place Inv-loop μ-loop
-add-place c = omega (arith, c .before .before .before .before .group-size .ensures, c .before .before .before .before .before .before .pre)
+add-place c = omega (arith, c .before .before .before .size-of .ensures, c .before .before .before .before .before .pre)
 
 add-j : tie.Need-add-j Inv-loop μ-loop
-add-j c = omega (arith, c .before .before .before .before .group-size .ensures, c .before .before .before .before .before .before .pre)
+add-j c = omega (arith, c .before .before .before .size-of .ensures, c .before .before .before .before .before .pre)
 
 loop-less : tie.Need-loop-less Inv-loop μ-loop
 loop-less c = omega arith
@@ -48,15 +45,15 @@ loop-less c = omega arith
 loop-again : tie.Need-loop-again Inv-loop μ-loop
 unfolding groupSize
 loop-again c =
-    let a = c .before .before .before .before .before .before .args in
-    let l = c .before .before .before .loop in
-    let n = length-set (l .room) (l .place) (c .read .result) in
-    let r = c .read .ensures ∙ ap (field (widthsOf (a .kind)) (a .word)) (c .before .kept-field .ensures) in (
+    let a = c .before .before .before .before .before .args in
+    let l = c .before .before .loop in
+    let n = length-set (l .room) (l .place) (c .read-kept .result) in
+    let r = c .read-kept .ensures in (
       omega arith,
       omega arith,
       omega (arith, n),
       ap (λ (value : ℕ). sets (set (l .room) (l .place) value) (l .place + 1) (spreadFields (widthsOf (a .kind)) (drop (l .j + 1) (keptFields (a .kind))) (a .word))) r
-          ∙ spread-turn (widthsOf (a .kind)) (keptFields (a .kind)) (l .room) (a .word) (l .place) (l .j) (omega (arith, c .before .before .before .before .group-size .ensures)) ∙ l .inv .3,
+          ∙ spread-turn (widthsOf (a .kind)) (keptFields (a .kind)) (l .room) (a .word) (l .place) (l .j) (omega (arith, c .before .before .before .size-of .ensures)) ∙ l .inv .3,
     )
 
 same-length : tie.Need-same-length Inv-loop μ-loop
@@ -67,7 +64,7 @@ unfolding groupSize
 returns c =
     let a = c .before .before .before .before .args in
     let l = c .before .loop in
-    sym (spread-end (widthsOf (a .kind)) (keptFields (a .kind)) (l .room) (a .word) (l .place) (l .j) (omega (arith, c .before .before .group-size .ensures))) ∙ l .inv .3
+    sym (spread-end (widthsOf (a .kind)) (keptFields (a .kind)) (l .room) (a .word) (l .place) (l .j) (omega (arith, c .before .before .size-of .ensures))) ∙ l .inv .3
 
 pub spread-word-spec : {M : Type 1} → statement M
 spread-word-spec =
@@ -75,10 +72,9 @@ spread-word-spec =
     (tie.spec
     Inv-loop
     μ-loop
-    group-size-requires
+    size-of-requires
     loop-holds
-    kept-field-requires
-    read-requires
+    read-kept-requires
     mul-room
     slice-write-room
     add-place

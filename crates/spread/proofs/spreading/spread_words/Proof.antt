@@ -65,11 +65,11 @@ kind-at-requires c κs = search needs
 spread-word-requires : tie.Need-spread-word-requires Inv-loop μ-loop
 spread-word-requires c κs = omega (arith, ap groupSize (kinds (c .before)), less (c .before .before .before .before), c .before .before .before .before .before .loop .inv .1, c .before .before .before .before .before .loop .inv .2, c .before .before .before .before .before .before .before .before .before .before .pre)
 
-group-size-requires : tie.Need-group-size-requires Inv-loop μ-loop
-group-size-requires c κs = search needs
+size-of-requires : tie.Need-size-of-requires Inv-loop μ-loop
+size-of-requires c κs = search needs
 
 add-at : tie.Need-add-at Inv-loop μ-loop
-add-at c = omega (arith, c .group-size .ensures ∙ ap groupSize (kinds (c .before .before .before .before .before)), less (c .before .before .before .before .before .before .before .before), c .before .before .before .before .before .before .before .before .before .loop .inv .1, c .before .before .before .before .before .before .before .before .before .loop .inv .2, c .before .before .before .before .before .before .before .before .before .before .before .before .before .before .pre)
+add-at c = omega (arith, c .size-of .ensures ∙ ap groupSize (kinds (c .before .before .before .before .before)), less (c .before .before .before .before .before .before .before .before), c .before .before .before .before .before .before .before .before .before .loop .inv .1, c .before .before .before .before .before .before .before .before .before .loop .inv .2, c .before .before .before .before .before .before .before .before .before .before .before .before .before .before .pre)
 
 add-i : tie.Need-add-i Inv-loop μ-loop
 add-i c = omega arith
@@ -83,7 +83,7 @@ loop-again c =
     let l = c .before .before .before .before .before .before .before .before .before .loop in
     let count = c .before .before .before .before .before .before .before .before .before .before .predicate-count .result in
     let word = getD image (l .i) 0 in
-    let g = c .group-size .ensures ∙ ap groupSize (kinds (c .before .before .before .before .before)) in
+    let g = c .size-of .ensures ∙ ap groupSize (kinds (c .before .before .before .before .before)) in
     let r = c .before .before .before .spread-word .ensures ∙ ap (λ (kind : Kind). sets (l .room) (l .at) (spreadWord kind word)) (kinds (c .before .before .before .before .before)) in (
       omega arith,
       ap length (c .before .before .before .spread-word .ensures) ∙ length-sets (l .room) (l .at) (spreadWord (c .before .before .before .before .before .kind-at .result) word) ∙ l .inv .1,
@@ -113,7 +113,7 @@ spread-words-spec =
     op-requires
     kind-at-requires
     spread-word-requires
-    group-size-requires
+    size-of-requires
     add-at
     add-i
     loop-less
