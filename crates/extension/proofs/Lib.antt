@@ -1,0 +1,2 @@
+pub mod FieldBounds
+pub mod TakeLaws

@@ -1,0 +1,6 @@
+pub mod BoundLaws
+pub mod ClashLaws
+pub mod FieldBounds
+pub mod PassLaws
+pub mod SkipLaws
+pub mod UndoLaws
