@@ -1,4 +1,6 @@
+pub mod PassingLaws
+pub mod ProgressLaws
+pub mod RaiseLaws
 pub mod RuleLaws
-pub mod FieldBounds
-pub mod TakeLaws
+pub mod RunLaws
 pub mod StepLaws

@@ -1,10 +1,10 @@
--- Whether a node is live, and the predicate that its first goal calls then. Document 01, "A node is live". Assumes nothing.
+-- Whether a node is live, and then the predicate that its first goal calls and where the goal stands. Document 01, "A node is live". Assumes nothing.
 use mathlib.Core.Bool.{cond}
 use mathlib.Core.List.{List}
 use Prim.Native.Nat.{ℕ}
-use Rattle.model.specs.Steps.{predicateOf, live}
+use Rattle.model.specs.Steps.{goalOf, predicateOf, live}
 use Rattle.engine.specs.declared.LiveGoal.{LiveGoal}
 use Rattle.engine.specs.declared.LiveGoal.the-variants.{Dead, Live}
 
 unfoldable pub liveGoal : List ℕ → List ℕ → List ℕ → ℕ → LiveGoal
-liveGoal image query nodes node = cond (live image query nodes node) (Live (predicateOf image query nodes node)) Dead
+liveGoal image query nodes node = cond (live image query nodes node) (Live (predicateOf image query nodes node) (goalOf image query nodes node)) Dead

@@ -122,6 +122,31 @@ pub fn clear(words: &mut [u32], start: usize, count: u32)
     requires { ⌜ start < 1099511627776 ⌝ }
     ensures { λ _. ⌜ now (words .exit) ≡ cleared count start (now (words .entry)) ⌝ }
 {
+    if start + count as usize <= words.len() {
+        clear_within(words, start, count);
+        return;
+    }
+    clear_past(words, start, count);
+}
+
+// Within the slice no store is tested, so that the compiler can set many words at once.
+fn clear_within(words: &mut [u32], start: usize, count: u32)
+    requires { ⌜ start + count ≤ length (now words) ⌝ }
+    ensures { λ _. ⌜ now (words .exit) ≡ cleared count start (now (words .entry)) ⌝ }
+{
+    let mut at = start;
+    let mut left = count;
+    while 0 < left {
+        words[at] = 0;
+        at += 1;
+        left -= 1;
+    }
+}
+
+fn clear_past(words: &mut [u32], start: usize, count: u32)
+    requires { ⌜ start < 1099511627776 ⌝ }
+    ensures { λ _. ⌜ now (words .exit) ≡ cleared count start (now (words .entry)) ⌝ }
+{
     let mut at = start;
     let mut left = count;
     while 0 < left {

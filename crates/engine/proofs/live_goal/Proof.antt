@@ -1,14 +1,15 @@
 -- `engine::live_goal` meets its contract. Assumes nothing.
-use mathlib.Core.Path.{ap, _∙_}
+use mathlib.Core.List.{List}
+use mathlib.Core.Path.{sym, ap, ap₂, _∙_}
+use Prim.Native.Nat.{ℕ}
 use native.Mathlib.Omega.{arith}
+use lib.ListN.{getD}
 use borrow.Author.Needs.{needs}
-use borrow.Author.Tests.{eq-eqb, ne-eqb, lt-ltb, le-ltb}
-use Rattle.model.specs.Steps.{predicateOf, live}
-use Rattle.model.specs.Memory.{hasGoal, tried}
+use Rattle.model.specs.Fields.{goalPredicate, clauseCount}
 use Rattle.model.specs.Image.{predicateWord}
-use Rattle.model.specs.Fields.{clauseCount}
-use Rattle.engine.specs.Live.{liveGoal}
+use Rattle.model.specs.Goals.{clauseWords}
 use Rattle.engine.specs.declared.LiveGoal.the-variants.{Live}
+use Rattle.engine.proofs.StepLaws.{liveGoal-none, liveGoal-tried, liveGoal-untried}
 use Rattle.engine.proofs.live_goal.Statement.{statement}
 use Rattle.engine.proofs.live_goal.Tie as tie
 
@@ -16,11 +17,22 @@ has-goal-requires : tie.Need-has-goal-requires
 has-goal-requires c κs = search needs
 
 returns : tie.Need-returns
-unfolding liveGoal live
-returns c = let a = c .before .before .before .before .before .args in simp (ne-eqb (hasGoal (a .nodes .now) (a .node)) 1 (omega arith))
+returns c = let a = c .before .before .before .before .before .args in liveGoal-none (a .image .now) (a .query .now) (a .nodes .now) (a .node) (λ e. c .if1 .taken (c .before .has-goal .ensures ∙ e))
 
-predicate-of-requires : tie.Need-predicate-of-requires
-predicate-of-requires c κs = search needs
+goal-of-requires : tie.Need-goal-of-requires
+goal-of-requires c κs = search needs
+
+frame-requires : tie.Need-frame-requires
+frame-requires c κs = search needs
+
+clause-words-requires : tie.Need-clause-words-requires
+clause-words-requires c κs = search needs
+
+word-at-requires : tie.Need-word-at-requires
+word-at-requires c κs = search needs
+
+goal-predicate-requires : tie.Need-goal-predicate-requires
+goal-predicate-requires c κs = search needs
 
 cast-word-at : tie.Need-cast-word-at
 cast-word-at c = search needs
@@ -28,8 +40,8 @@ cast-word-at c = search needs
 add-word-at : tie.Need-add-word-at
 add-word-at c = search needs
 
-word-at-requires : tie.Need-word-at-requires
-word-at-requires c κs = search needs
+word-at-requires-2 : tie.Need-word-at-requires-2
+word-at-requires-2 c κs = search needs
 
 clause-count-requires : tie.Need-clause-count-requires
 clause-count-requires c κs = search needs
@@ -38,18 +50,24 @@ tried-requires : tie.Need-tried-requires
 tried-requires c κs = search needs
 
 returns-2 : tie.Need-returns-2
-unfolding liveGoal live
 returns-2 c =
-    let a = c .before .before .before .before .before .before .before .before .before .before .args in
-    let p = c .before .before .clause-count .ensures ∙ ap clauseCount (c .before .before .before .word-at .ensures ∙ ap (predicateWord (a .image .now)) (c .before .before .before .before .predicate-of .ensures)) in
-    simp (eq-eqb (hasGoal (a .nodes .now) (a .node)) 1 (omega arith), le-ltb (tried (a .nodes .now) (a .node)) (clauseCount (predicateWord (a .image .now) (predicateOf (a .image .now) (a .query .now) (a .nodes .now) (a .node)))) (omega (arith, p)))
+    let a = c .before .before .before .before .before .before .before .before .before .before .before .before .before .before .args in
+    let calls =
+    c .before .before .before .before .goal-predicate .ensures
+    ∙ ap goalPredicate (c .before .before .before .before .before .word-at .ensures ∙ ap₂ (λ (l : List ℕ) (n : ℕ). getD l n 0) (c .before .before .before .before .before .before .clause-words .ensures ∙ ap (clauseWords (a .image .now) (a .query .now) (a .nodes .now)) (c .before .before .before .before .before .before .before .frame .ensures)) (c .before .before .before .before .before .before .before .before .goal-of .ensures)) in
+    let many = c .before .before .clause-count .ensures ∙ ap clauseCount (c .before .before .before .word-at2 .ensures ∙ ap (predicateWord (a .image .now)) calls) in
+    let goal = sym (c .before .before .before .before .before .before .before .before .before .before .has-goal .ensures) ∙ c .before .before .before .before .before .before .before .before .before .if1 .left in
+    liveGoal-tried (a .image .now) (a .query .now) (a .nodes .now) (a .node) goal (omega (arith, many, c .before .tried .ensures))
 
 returns-3 : tie.Need-returns-3
-unfolding liveGoal live
 returns-3 c =
-    let a = c .before .before .before .before .before .before .before .before .before .before .args in
-    let p = c .before .before .clause-count .ensures ∙ ap clauseCount (c .before .before .before .word-at .ensures ∙ ap (predicateWord (a .image .now)) (c .before .before .before .before .predicate-of .ensures)) in
-    simp (eq-eqb (hasGoal (a .nodes .now) (a .node)) 1 (omega arith), lt-ltb (tried (a .nodes .now) (a .node)) (clauseCount (predicateWord (a .image .now) (predicateOf (a .image .now) (a .query .now) (a .nodes .now) (a .node)))) (omega (arith, p))) (ap Live (c .before .before .before .before .predicate-of .ensures))
+    let a = c .before .before .before .before .before .before .before .before .before .before .before .before .before .before .args in
+    let calls =
+    c .before .before .before .before .goal-predicate .ensures
+    ∙ ap goalPredicate (c .before .before .before .before .before .word-at .ensures ∙ ap₂ (λ (l : List ℕ) (n : ℕ). getD l n 0) (c .before .before .before .before .before .before .clause-words .ensures ∙ ap (clauseWords (a .image .now) (a .query .now) (a .nodes .now)) (c .before .before .before .before .before .before .before .frame .ensures)) (c .before .before .before .before .before .before .before .before .goal-of .ensures)) in
+    let many = c .before .before .clause-count .ensures ∙ ap clauseCount (c .before .before .before .word-at2 .ensures ∙ ap (predicateWord (a .image .now)) calls) in
+    let goal = sym (c .before .before .before .before .before .before .before .before .before .before .has-goal .ensures) ∙ c .before .before .before .before .before .before .before .before .before .if1 .left in
+    ap₂ Live calls (c .before .before .before .before .before .before .before .before .goal-of .ensures) ∙ liveGoal-untried (a .image .now) (a .query .now) (a .nodes .now) (a .node) goal (omega (arith, many, c .before .tried .ensures))
 
 pub live-goal-spec : {M : Type 1} → statement M
 live-goal-spec =
@@ -57,10 +75,14 @@ live-goal-spec =
     (tie.spec
     has-goal-requires
     returns
-    predicate-of-requires
+    goal-of-requires
+    frame-requires
+    clause-words-requires
+    word-at-requires
+    goal-predicate-requires
     cast-word-at
     add-word-at
-    word-at-requires
+    word-at-requires-2
     clause-count-requires
     tried-requires
     returns-2

@@ -3,8 +3,10 @@ use mathlib.Core.Path.{_≡_, refl, sym, ap, _∙_}
 use Prim.Native.Nat.{ℕ, _+_}
 use native.Mathlib.Omega.{arith}
 use lib.ListN.{length}
+use borrow.Author.Needs.{needs}
 use Rattle.model.specs.Steps.{view, ran, runFrom}
 use Rattle.engine.proofs.StepLaws.{runFrom-end, runFrom-stops, runFrom-more}
+use Rattle.engine.proofs.RunLaws.{progress-some, progress-run, progress-did}
 use Rattle.engine.proofs.run.Statement.{statement}
 use Rattle.engine.proofs.run.Tie as tie
 
@@ -19,8 +21,50 @@ abbrev μ-loop : tie.MeasureT-loop
 loop-holds : tie.Need-loop-holds Inv-loop μ-loop
 loop-holds c = (refl, refl, refl, refl, refl, omega arith, refl)
 
-step-requires : tie.Need-step-requires Inv-loop μ-loop
-step-requires c κs = omega arith
+advance-requires : tie.Need-advance-requires Inv-loop μ-loop
+advance-requires c κs = c .before .before .before .before .before .loop-test .taken
+
+enum-known-passed : tie.Need-enum-known-passed Inv-loop μ-loop
+enum-known-passed c = search needs
+
+add-count : tie.Need-add-count Inv-loop μ-loop
+add-count c =
+    let a = c .before .before .before .before .before .before .before .before .before .before .before .before .before .before .before .before .before .before .before .before .before .before .before .before .before .before .before .before .args in
+    let l = c .before .before .before .before .before .before .before .before .before .before .before .before .before .before .before .before .before .before .before .before .loop in
+    let m = progress-some (a .image .now) (a .query .now) (a .worker) (view (l .nodes) (l .cells) (l .trail) (l .array) (l .workers)) _ (c .before .before .before .before .before .before .before .before .before .before .before .before .before .advance .result) (l .left) (c .before .passed .given .0 .0) (c .before .passed .given .1) (c .before .before .before .before .before .before .before .before .before .before .before .before .before .advance .ensures) in
+    omega (arith, m .1)
+
+sub-left : tie.Need-sub-left Inv-loop μ-loop
+sub-left c =
+    let a = c .before .before .before .before .before .before .before .before .before .before .before .before .before .before .before .before .before .before .before .before .before .before .before .before .before .before .before .before .args in
+    let l = c .before .before .before .before .before .before .before .before .before .before .before .before .before .before .before .before .before .before .before .before .loop in
+    let m = progress-some (a .image .now) (a .query .now) (a .worker) (view (l .nodes) (l .cells) (l .trail) (l .array) (l .workers)) _ (c .before .before .before .before .before .before .before .before .before .before .before .before .before .advance .result) (l .left) (c .before .passed .given .0 .0) (c .before .passed .given .1) (c .before .before .before .before .before .before .before .before .before .before .before .before .before .advance .ensures) in
+    m .1
+
+loop-less : tie.Need-loop-less Inv-loop μ-loop
+loop-less c =
+    let a = c .before .before .before .before .before .before .before .before .before .before .before .before .before .before .before .before .before .before .before .before .before .before .before .before .before .before .before .before .args in
+    let l = c .before .before .before .before .before .before .before .before .before .before .before .before .before .before .before .before .before .before .before .before .loop in
+    let m = progress-some (a .image .now) (a .query .now) (a .worker) (view (l .nodes) (l .cells) (l .trail) (l .array) (l .workers)) _ (c .before .before .before .before .before .before .before .before .before .before .before .before .before .advance .result) (l .left) (c .before .passed .given .0 .0) (c .before .passed .given .1) (c .before .before .before .before .before .before .before .before .before .before .before .before .before .advance .ensures) in
+    omega (arith, m .0, m .1)
+
+loop-again : tie.Need-loop-again Inv-loop μ-loop
+loop-again c =
+    let a = c .before .before .before .before .before .before .before .before .before .before .before .before .before .before .before .before .before .before .before .before .before .before .before .before .before .before .before .before .args in
+    let l = c .before .before .before .before .before .before .before .before .before .before .before .before .before .before .before .before .before .before .before .before .loop in
+    let m = progress-some (a .image .now) (a .query .now) (a .worker) (view (l .nodes) (l .cells) (l .trail) (l .array) (l .workers)) _ (c .before .before .before .before .before .before .before .before .before .before .before .before .before .advance .result) (l .left) (c .before .passed .given .0 .0) (c .before .passed .given .1) (c .before .before .before .before .before .before .before .before .before .before .before .before .before .advance .ensures) in
+    let k = c .before .before .before .before .before .before .before .before .before .before .before .before .before .advance .kept in (
+      omega (arith, k),
+      omega (arith, k),
+      omega (arith, k),
+      omega (arith, k),
+      omega (arith, k),
+      omega (arith, m .1),
+      progress-run (a .image .now) (a .query .now) (a .worker) (view (l .nodes) (l .cells) (l .trail) (l .array) (l .workers)) _ (c .before .before .before .before .before .before .before .before .before .before .before .before .before .advance .result) (l .left) (c .before .passed .given .0 .0) (l .count) (c .before .passed .given .1) (c .before .before .before .before .before .before .before .before .before .before .before .before .before .advance .ensures) ∙ l .inv .6,
+    )
+
+enum-known-outcome : tie.Need-enum-known-outcome Inv-loop μ-loop
+enum-known-outcome c = search needs
 
 stops-requires : tie.Need-stops-requires Inv-loop μ-loop
 stops-requires c κs = omega arith
@@ -45,32 +89,32 @@ same-length-5 c = omega arith
 
 returns : tie.Need-returns Inv-loop μ-loop
 returns c =
-    let a = c .before .before .before .before .before .before .before .before .before .before .before .before .before .before .before .before .before .before .before .before .before .before .before .before .before .before .before .before .args in
-    let l = c .before .before .before .before .before .before .before .before .before .before .before .before .before .before .before .before .before .before .before .before .loop in
-    ap (λ (n : ℕ). ran (c .before .before .before .before .before .before .before .before .before .before .before .before .before .step .result) n (view (c .before .before .before .before .before .before .before .before .before .before .before .before .before .step .last .1 .1 .0) (c .before .before .before .before .before .before .before .before .before .before .before .before .before .step .last .1 .1 .1 .0) (c .before .before .before .before .before .before .before .before .before .before .before .before .before .step .last .1 .1 .1 .1 .0) (c .before .before .before .before .before .before .before .before .before .before .before .before .before .step .last .1 .1 .1 .1 .1 .0) (c .before .before .before .before .before .before .before .before .before .before .before .before .before .step .last .1 .1 .1 .1 .1 .1 .0))) (c .last-count .ensures)
-    ∙ runFrom-stops (l .count) (a .image .now) (a .query .now) (a .worker) (view (l .nodes) (l .cells) (l .trail) (l .array) (l .workers)) _ (c .before .before .before .before .before .before .before .before .before .before .before .before .before .step .result) (c .before .before .before .before .before .before .before .before .before .before .before .before .before .step .ensures) (l .left) (omega arith) (sym (c .before .before .stops .ensures) ∙ c .before .if1 .taken) ∙ l .inv .6
+    let a = c .before .before .before .before .before .before .before .before .before .before .before .before .before .before .before .before .before .before .before .before .before .before .before .before .before .before .before .before .before .before .before .args in
+    let l = c .before .before .before .before .before .before .before .before .before .before .before .before .before .before .before .before .before .before .before .before .before .before .before .loop in
+    ap (λ (n : ℕ). ran (c .before .before .before .before .outcome .given .0 .0) n (view (c .before .before .before .before .before .before .before .before .before .before .before .before .before .before .before .before .advance .last .1 .1 .0) (c .before .before .before .before .before .before .before .before .before .before .before .before .before .before .before .before .advance .last .1 .1 .1 .0) (c .before .before .before .before .before .before .before .before .before .before .before .before .before .before .before .before .advance .last .1 .1 .1 .1 .0) (c .before .before .before .before .before .before .before .before .before .before .before .before .before .before .before .before .advance .last .1 .1 .1 .1 .1 .0) (c .before .before .before .before .before .before .before .before .before .before .before .before .before .before .before .before .advance .last .1 .1 .1 .1 .1 .1 .0))) (c .last-count .ensures)
+    ∙ runFrom-stops (l .count) (a .image .now) (a .query .now) (a .worker) (view (l .nodes) (l .cells) (l .trail) (l .array) (l .workers)) _ (c .before .before .before .before .outcome .given .0 .0) (progress-did (a .image .now) (a .query .now) (a .worker) (view (l .nodes) (l .cells) (l .trail) (l .array) (l .workers)) _ (c .before .before .before .before .before .before .before .before .before .before .before .before .before .before .before .before .advance .result) (l .left) (c .before .before .before .before .outcome .given .0 .0) (c .before .before .before .before .outcome .given .1) (c .before .before .before .before .before .before .before .before .before .before .before .before .before .before .before .before .advance .ensures)) (l .left) (omega arith) (sym (c .before .before .stops .ensures) ∙ c .before .if1 .taken) ∙ l .inv .6
 
-add-count : tie.Need-add-count Inv-loop μ-loop
-add-count c = omega arith
+add-count-2 : tie.Need-add-count-2 Inv-loop μ-loop
+add-count-2 c = omega arith
 
-sub-left : tie.Need-sub-left Inv-loop μ-loop
-sub-left c = omega arith
+sub-left-2 : tie.Need-sub-left-2 Inv-loop μ-loop
+sub-left-2 c = omega arith
 
-loop-less : tie.Need-loop-less Inv-loop μ-loop
-loop-less c = omega arith
+loop-less-2 : tie.Need-loop-less-2 Inv-loop μ-loop
+loop-less-2 c = omega arith
 
-loop-again : tie.Need-loop-again Inv-loop μ-loop
-loop-again c =
-    let a = c .before .before .before .before .before .before .before .before .before .before .before .before .before .before .before .before .before .before .before .before .before .before .before .before .before .before .before .args in
-    let l = c .before .before .before .before .before .before .before .before .before .before .before .before .before .before .before .before .before .before .before .loop in
-    let k = c .before .before .before .before .before .before .before .before .before .before .before .before .step .kept in (
+loop-again-2 : tie.Need-loop-again-2 Inv-loop μ-loop
+loop-again-2 c =
+    let a = c .before .before .before .before .before .before .before .before .before .before .before .before .before .before .before .before .before .before .before .before .before .before .before .before .before .before .before .before .before .before .args in
+    let l = c .before .before .before .before .before .before .before .before .before .before .before .before .before .before .before .before .before .before .before .before .before .before .loop in
+    let k = c .before .before .before .before .before .before .before .before .before .before .before .before .before .before .before .advance .kept in (
       omega (arith, k),
       omega (arith, k),
       omega (arith, k),
       omega (arith, k),
       omega (arith, k),
       omega arith,
-      runFrom-more (l .count) (a .image .now) (a .query .now) (a .worker) (view (l .nodes) (l .cells) (l .trail) (l .array) (l .workers)) _ (c .before .before .before .before .before .before .before .before .before .before .before .before .step .result) (c .before .before .before .before .before .before .before .before .before .before .before .before .step .ensures) (l .left) (omega arith) (sym (c .before .stops .ensures) ∙ c .if1 .left) ∙ l .inv .6,
+      runFrom-more (l .count) (a .image .now) (a .query .now) (a .worker) (view (l .nodes) (l .cells) (l .trail) (l .array) (l .workers)) _ (c .before .before .before .outcome .given .0 .0) (progress-did (a .image .now) (a .query .now) (a .worker) (view (l .nodes) (l .cells) (l .trail) (l .array) (l .workers)) _ (c .before .before .before .before .before .before .before .before .before .before .before .before .before .before .before .advance .result) (l .left) (c .before .before .before .outcome .given .0 .0) (c .before .before .before .outcome .given .1) (c .before .before .before .before .before .before .before .before .before .before .before .before .before .before .before .advance .ensures)) (l .left) (omega arith) (sym (c .before .stops .ensures) ∙ c .if1 .left) ∙ l .inv .6,
     )
 
 same-length-6 : tie.Need-same-length-6 Inv-loop μ-loop
@@ -101,7 +145,13 @@ run-spec =
     Inv-loop
     μ-loop
     loop-holds
-    step-requires
+    advance-requires
+    enum-known-passed
+    add-count
+    sub-left
+    loop-less
+    loop-again
+    enum-known-outcome
     stops-requires
     last-count-requires
     same-length
@@ -110,10 +160,10 @@ run-spec =
     same-length-4
     same-length-5
     returns
-    add-count
-    sub-left
-    loop-less
-    loop-again
+    add-count-2
+    sub-left-2
+    loop-less-2
+    loop-again-2
     same-length-6
     same-length-7
     same-length-8

@@ -1,30 +1,19 @@
 -- `engine::step` meets its contract. Assumes nothing.
-use mathlib.Core.Path.{sym, _∙_}
+use native.Mathlib.Omega.{arith}
 use borrow.Author.Needs.{needs}
 use Rattle.model.specs.Steps.{view}
-use Rattle.engine.proofs.StepLaws.{liveGoal-dead, liveGoal-live, step-dead, step-live}
+use Rattle.engine.proofs.RunLaws.{progress-one, progress-did}
 use Rattle.engine.proofs.step.Statement.{statement}
 use Rattle.engine.proofs.step.Tie as tie
 
-word-at-requires : tie.Need-word-at-requires
-word-at-requires c κs = search needs
-
-live-goal-requires : tie.Need-live-goal-requires
-live-goal-requires c κs = search needs
+advance-requires : tie.Need-advance-requires
+advance-requires c κs = search needs
 
 enum-told : tie.Need-enum-told
 enum-told c = search needs
 
-dead-step-requires : tie.Need-dead-step-requires
-dead-step-requires c κs = search needs
-
-enum-known-predicate : tie.Need-enum-known-predicate
-enum-known-predicate c = search needs
-
-live-step-requires : tie.Need-live-step-requires
-live-step-requires c κs =
-    let a = c .before .before .before .before .before .before .before .before .before .before .before .before .before .before .before .before .before .before .before .args in
-    liveGoal-live (a .image .now) (a .query .now) (a .nodes .now) (c .before .before .before .before .before .before .before .before .before .before .word-at .result) (c .before .before .before .before .before .before .predicate .given .0 .0) (sym (c .before .before .before .before .before .before .predicate .given .1) ∙ c .before .before .before .before .before .before .before .before .live-goal .ensures) .1
+enum-known-outcome : tie.Need-enum-known-outcome
+enum-known-outcome c = search needs
 
 same-length : tie.Need-same-length
 same-length c = search needs
@@ -43,10 +32,8 @@ same-length-5 c = search needs
 
 returns : tie.Need-returns
 returns c =
-    let a = c .before .before .before .before .before .before .before .before .before .before .before .before .before .before .before .before .before .before .before .before .before .before .before .before .before .before .before .before .before .args in
-    c .before .before .before .before .before .before .before .before .before .before .dead-step .ensures
-    ∙ step-dead (a .image .now) (a .query .now) (view (a .nodes .now) (a .cells .now) (a .trail .now) (a .array .now) (a .workers .now)) (a .worker) (c .before .before .before .before .before .before .before .before .before .before .before .before .before .before .before .before .before .before .before .before .word-at .result) (c .before .before .before .before .before .before .before .before .before .before .before .before .before .before .before .before .before .before .before .before .word-at .ensures)
-    (liveGoal-dead (a .image .now) (a .query .now) (a .nodes .now) (c .before .before .before .before .before .before .before .before .before .before .before .before .before .before .before .before .before .before .before .before .word-at .result) (sym (c .before .before .before .before .before .before .before .before .before .before .before .before .before .before .before .before .enum-told .given .1) ∙ c .before .before .before .before .before .before .before .before .before .before .before .before .before .before .before .before .before .before .live-goal .ensures))
+    let a = c .before .before .before .before .before .before .before .before .before .before .before .before .before .before .before .before .before .before .before .before .before .before .before .before .before .args in
+    progress-one (a .image .now) (a .query .now) (a .worker) (view (a .nodes .now) (a .cells .now) (a .trail .now) (a .array .now) (a .workers .now)) _ (c .before .before .before .before .before .before .before .before .before .before .before .before .advance .result) (c .enum-told .given .0 .0) (c .enum-told .given .1) (c .before .before .before .before .before .before .before .before .before .before .before .before .advance .ensures)
 
 same-length-6 : tie.Need-same-length-6
 same-length-6 c = search needs
@@ -65,21 +52,16 @@ same-length-10 c = search needs
 
 returns-2 : tie.Need-returns-2
 returns-2 c =
-    let a = c .before .before .before .before .before .before .before .before .before .before .before .before .before .before .before .before .before .before .before .before .before .before .before .before .before .before .before .before .before .before .args in
-    c .before .before .before .before .before .before .before .before .before .before .live-step .ensures
-    ∙ step-live (a .image .now) (a .query .now) (view (a .nodes .now) (a .cells .now) (a .trail .now) (a .array .now) (a .workers .now)) (a .worker) (c .before .before .before .before .before .before .before .before .before .before .before .before .before .before .before .before .before .before .before .before .before .word-at .result) (c .before .before .before .before .before .before .before .before .before .before .before .before .before .before .before .before .before .before .before .before .before .word-at .ensures)
-    (liveGoal-live (a .image .now) (a .query .now) (a .nodes .now) (c .before .before .before .before .before .before .before .before .before .before .before .before .before .before .before .before .before .before .before .before .before .word-at .result) (c .before .before .before .before .before .before .before .before .before .before .before .before .before .before .before .before .before .predicate .given .0 .0) (sym (c .before .before .before .before .before .before .before .before .before .before .before .before .before .before .before .before .before .predicate .given .1) ∙ c .before .before .before .before .before .before .before .before .before .before .before .before .before .before .before .before .before .before .before .live-goal .ensures) .0)
+    let a = c .before .before .before .before .before .before .before .before .before .before .before .before .before .before .before .before .before .before .before .before .before .before .before .before .before .before .args in
+    progress-did (a .image .now) (a .query .now) (a .worker) (view (a .nodes .now) (a .cells .now) (a .trail .now) (a .array .now) (a .workers .now)) _ (c .before .before .before .before .before .before .before .before .before .before .before .before .before .advance .result) 1 (c .before .outcome .given .0 .0) (c .before .outcome .given .1) (c .before .before .before .before .before .before .before .before .before .before .before .before .before .advance .ensures)
 
 pub step-spec : {M : Type 1} → statement M
 step-spec =
     tie.close
     (tie.spec
-    word-at-requires
-    live-goal-requires
+    advance-requires
     enum-told
-    dead-step-requires
-    enum-known-predicate
-    live-step-requires
+    enum-known-outcome
     same-length
     same-length-2
     same-length-3
