@@ -1,17 +1,21 @@
 // What the signing host in C sees: exported functions over its slices. `include/cumbwael.h` declares them.
+mod answers;
+mod search;
+
+use answers::of_check;
+use answers::of_written;
 use model::Fault;
 use model::Refusal;
 use model::Verdict;
-use model::Written;
 ghost use mathlib.Core.Path.{_≡_};
-ghost use Prim.Native.Nat.{_+_, _*_, _≤_, _<_, min};
+ghost use Prim.Native.Nat.{_+_, _*_, _≤_, _<_};
 ghost use lib.ListN.{length};
 ghost use Rattle.model.specs.Numbers.{verdictNumber};
-ghost use Rattle.model.specs.Image.{checkImage};
+ghost use Rattle.model.specs.Image.{checkImage, checkQuery};
 ghost use Rattle.model.specs.Bytes.{wordOfBytes, wordsFrom, checkBytes};
 ghost use Rattle.model.specs.Spread.{pack, unpack};
 ghost use Rattle.host.specs.Near.{Near};
-ghost use Rattle.host.specs.Answers.{answerOf};
+ghost use Rattle.host.specs.Answers.{answerOf, answerOfCheck};
 
 // What every other call answers: the number of the refusal, 0 if there is none, and its position; else what was done. What does not apply is 0.
 #[repr(C)]
@@ -98,35 +102,12 @@ pub extern "C" fn cumbwael_check(bytes: &[u8]) -> u64
     check_large(bytes, count)
 }
 
-// A position or a count in 32 bits: the greatest number stands for itself and for all above it.
-fn cut(n: usize) -> u32
-    ensures { λ r. ⌜ r ≡ min n 4294967295 ⌝ }
+// The check of a query against its image, both as words. The image is judged first.
+#[no_mangle]
+pub extern "C" fn cumbwael_check_query(image: &[u32], query: &[u32]) -> Answer
+    ensures { λ r. ⌜ r ≡ answerOfCheck (checkQuery (now (image .entry)) (now (query .entry))) ⌝ }
 {
-    if 4294967295 < n {
-        return 4294967295;
-    }
-    n as u32
-}
-
-fn answer_of(written: Written) -> Answer
-    ensures { λ r. ⌜ r ≡ answerOf written ⌝ }
-{
-    match written {
-        Written::Done(count) => Answer {
-            refusal: 0,
-            position: 0,
-            outcome: 0,
-            slot: 0,
-            count: cut(count),
-        },
-        Written::Refused(refusal, at) => Answer {
-            refusal: numbers::refusal_number(refusal),
-            position: cut(at),
-            outcome: 0,
-            slot: 0,
-            count: 0,
-        },
-    }
+    of_check(image::check_query(image, query))
 }
 
 // From a spread list to the image that it is the spread form of.
@@ -134,7 +115,7 @@ fn answer_of(written: Written) -> Answer
 pub extern "C" fn cumbwael_pack(list: &[u32], room: &mut [u32]) -> Answer
     ensures { λ r. ⌜ (r ≡ answerOf (pack (now (list .entry)) (now (room .entry)) .answer)) × (now (room .exit) ≡ pack (now (list .entry)) (now (room .entry)) .room) ⌝ }
 {
-    answer_of(spread::pack(list, room))
+    of_written(spread::pack(list, room))
 }
 
 // From a legal image to its spread form.
@@ -142,5 +123,5 @@ pub extern "C" fn cumbwael_pack(list: &[u32], room: &mut [u32]) -> Answer
 pub extern "C" fn cumbwael_unpack(image: &[u32], room: &mut [u32]) -> Answer
     ensures { λ r. ⌜ (r ≡ answerOf (unpack (now (image .entry)) (now (room .entry)) .answer)) × (now (room .exit) ≡ unpack (now (image .entry)) (now (room .entry)) .room) ⌝ }
 {
-    answer_of(spread::unpack(image, room))
+    of_written(spread::unpack(image, room))
 }

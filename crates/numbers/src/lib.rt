@@ -1,9 +1,11 @@
-// Document 01's number for each refusal, as the definitions of `model` give them.
+// Document 01's number for each refusal and each outcome, as the definitions of `model` give them.
 use model::Fault;
+use model::Outcome;
 use model::Refusal;
 ghost use mathlib.Core.Path.{_≡_};
 ghost use Prim.Native.Nat.{_<_};
 ghost use Rattle.model.specs.Numbers.{faultNumber, refusalNumber};
+ghost use Rattle.model.specs.Machine.{outcomeNumber};
 
 pub fn fault_number(fault: Fault) -> u32
     ensures { λ r. ⌜ r ≡ faultNumber fault ⌝ }
@@ -44,5 +46,21 @@ pub fn refusal_number(refusal: Refusal) -> u32
         Refusal::NoWorker => 22,
         Refusal::NoSlot => 23,
         Refusal::NoAnswer => 25,
+    }
+}
+
+pub fn outcome_number(outcome: Outcome) -> u32
+    ensures { λ r. ⌜ r ≡ outcomeNumber outcome ⌝ }
+{
+    match outcome {
+        Outcome::Tried => 0,
+        Outcome::Extended => 1,
+        Outcome::Answer => 2,
+        Outcome::Back => 3,
+        Outcome::Left => 4,
+        Outcome::Wait => 5,
+        Outcome::Finished => 6,
+        Outcome::Spent => 7,
+        Outcome::Full => 24,
     }
 }

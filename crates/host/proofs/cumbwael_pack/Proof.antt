@@ -9,8 +9,8 @@ use Rattle.host.proofs.cumbwael_pack.Tie as tie
 pack-requires : tie.Need-pack-requires
 pack-requires c κs = search needs
 
-answer-of-requires : tie.Need-answer-of-requires
-answer-of-requires c κs = search needs
+of-written-requires : tie.Need-of-written-requires
+of-written-requires c κs = search needs
 
 same-length : tie.Need-same-length
 same-length c = search needs
@@ -18,7 +18,7 @@ same-length c = search needs
 returns : tie.Need-returns
 returns c =
     let e = c .before .before .before .pack .ensures in
-    (c .answer-of .ensures ∙ ap (λ (call : WrittenTo). answerOf (call .answer)) e, ap (λ (call : WrittenTo). call .room) e)
+    (c .of-written .ensures ∙ ap (λ (call : WrittenTo). answerOf (call .answer)) e, ap (λ (call : WrittenTo). call .room) e)
 
 pub cumbwael-pack-spec : {M : Type 1} → statement M
-cumbwael-pack-spec = tie.close (tie.spec pack-requires answer-of-requires same-length returns)
+cumbwael-pack-spec = tie.close (tie.spec pack-requires of-written-requires same-length returns)

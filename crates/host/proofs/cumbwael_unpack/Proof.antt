@@ -9,8 +9,8 @@ use Rattle.host.proofs.cumbwael_unpack.Tie as tie
 unpack-requires : tie.Need-unpack-requires
 unpack-requires c κs = search needs
 
-answer-of-requires : tie.Need-answer-of-requires
-answer-of-requires c κs = search needs
+of-written-requires : tie.Need-of-written-requires
+of-written-requires c κs = search needs
 
 same-length : tie.Need-same-length
 same-length c = search needs
@@ -18,7 +18,7 @@ same-length c = search needs
 returns : tie.Need-returns
 returns c =
     let e = c .before .before .before .unpack .ensures in
-    (c .answer-of .ensures ∙ ap (λ (call : WrittenTo). answerOf (call .answer)) e, ap (λ (call : WrittenTo). call .room) e)
+    (c .of-written .ensures ∙ ap (λ (call : WrittenTo). answerOf (call .answer)) e, ap (λ (call : WrittenTo). call .room) e)
 
 pub cumbwael-unpack-spec : {M : Type 1} → statement M
-cumbwael-unpack-spec = tie.close (tie.spec unpack-requires answer-of-requires same-length returns)
+cumbwael-unpack-spec = tie.close (tie.spec unpack-requires of-written-requires same-length returns)
