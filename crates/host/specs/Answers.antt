@@ -16,6 +16,7 @@ use Rattle.model.specs.declared.MoveAnswer.the-variants.{Done as DoneMove, Refu
 use Rattle.model.specs.Numbers.{refusalNumber}
 use Rattle.model.specs.Machine.{outcomeNumber}
 use Rattle.model.specs.Memory.{Memory}
+use Rattle.model.specs.Spread.{WrittenTo}
 use Rattle.model.specs.Calls.{Loaded, StepCalled, RunCalled, MoveCalled, ReadCalled}
 use Rattle.host.specs.declared.Answer.{Answer}
 
@@ -77,3 +78,7 @@ filled answer room = record { answer = answer; room = room }
 
 abbrev pub ofRead : ReadCalled → Filled
 ofRead call = filled (answerOf (call .answer)) (call .room)
+
+-- of packing and unpacking
+abbrev pub ofWriting : WrittenTo → Filled
+ofWriting call = filled (answerOf (call .answer)) (call .room)

@@ -15,7 +15,7 @@ ghost use Rattle.model.specs.Image.{checkImage, checkQuery};
 ghost use Rattle.model.specs.Bytes.{wordOfBytes, wordsFrom, checkBytes};
 ghost use Rattle.model.specs.Spread.{pack, unpack};
 ghost use Rattle.host.specs.Near.{Near};
-ghost use Rattle.host.specs.Answers.{answerOf, answerOfCheck};
+ghost use Rattle.host.specs.Answers.{answerOfCheck, filled, ofWriting};
 
 // What every other call answers: the number of the refusal, 0 if there is none, and its position; else what was done. What does not apply is 0.
 #[repr(C)]
@@ -113,7 +113,7 @@ pub extern "C" fn cumbwael_check_query(image: &[u32], query: &[u32]) -> Answer
 // From a spread list to the image that it is the spread form of.
 #[no_mangle]
 pub extern "C" fn cumbwael_pack(list: &[u32], room: &mut [u32]) -> Answer
-    ensures { λ r. ⌜ (r ≡ answerOf (pack (now (list .entry)) (now (room .entry)) .answer)) × (now (room .exit) ≡ pack (now (list .entry)) (now (room .entry)) .room) ⌝ }
+    ensures { λ r. ⌜ filled r (now (room .exit)) ≡ ofWriting (pack (now (list .entry)) (now (room .entry))) ⌝ }
 {
     of_written(spread::pack(list, room))
 }
@@ -121,7 +121,7 @@ pub extern "C" fn cumbwael_pack(list: &[u32], room: &mut [u32]) -> Answer
 // From a legal image to its spread form.
 #[no_mangle]
 pub extern "C" fn cumbwael_unpack(image: &[u32], room: &mut [u32]) -> Answer
-    ensures { λ r. ⌜ (r ≡ answerOf (unpack (now (image .entry)) (now (room .entry)) .answer)) × (now (room .exit) ≡ unpack (now (image .entry)) (now (room .entry)) .room) ⌝ }
+    ensures { λ r. ⌜ filled r (now (room .exit)) ≡ ofWriting (unpack (now (image .entry)) (now (room .entry))) ⌝ }
 {
     of_written(spread::unpack(image, room))
 }

@@ -1,8 +1,6 @@
 -- `host::cumbwael_pack` meets its contract. Assumes nothing.
-use mathlib.Core.Path.{ap, _∙_}
 use borrow.Author.Needs.{needs}
-use Rattle.model.specs.Spread.{WrittenTo}
-use Rattle.host.specs.Answers.{answerOf}
+use Rattle.host.proofs.AnswerLaws.{writing-said}
 use Rattle.host.proofs.cumbwael_pack.Statement.{statement}
 use Rattle.host.proofs.cumbwael_pack.Tie as tie
 
@@ -16,9 +14,7 @@ same-length : tie.Need-same-length
 same-length c = search needs
 
 returns : tie.Need-returns
-returns c =
-    let e = c .before .before .before .pack .ensures in
-    (c .of-written .ensures ∙ ap (λ (call : WrittenTo). answerOf (call .answer)) e, ap (λ (call : WrittenTo). call .room) e)
+returns c = writing-said _ _ _ _ (c .of-written .ensures) (c .before .before .before .pack .ensures)
 
 pub cumbwael-pack-spec : {M : Type 1} → statement M
 cumbwael-pack-spec = tie.close (tie.spec pack-requires of-written-requires same-length returns)
