@@ -15,19 +15,20 @@ two, and the words that a read writes.
 import random
 import sys
 
-from engine_changes import changed_rules, reason_of, some_change, used_slots
+from engine_changes import changed_rules, reason_of, some_change, swept_nodes, swept_words, used_slots
 from engine_rules import random_rules, written_rules
-from engine_store import CELLS, IMAGE, LOAD, LONGER, MOST, MOVE, NODES, QUERY, READ, RUN, SHORTER, SPARE, STEP, WORKERS, Cases
+from engine_store import CELLS, IMAGE, LOAD, LONGER, MOST, MOVE, NODES, QUERY, READ, RUN, SHORTER, SPARE, STEP, TRAIL, WORKERS, Cases
 
 
 def damage(cases):
     """A changed memory, of those drawn the one whose verdict was given least often; and a call on it."""
     rng = cases.rng
     drawn = [c for c in (some_change(cases) for _ in range(8)) if c]
-    judged = [(cases.reasons[reason_of(cases, c)] * (0.08 if reason_of(cases, c) == 'sound' else 1), i, c) for i, c in enumerate(drawn)]
+    judged = [(cases.drawn[reason_of(cases, c)] * (0.06 if reason_of(cases, c) == 'sound' else 1), i, c) for i, c in enumerate(drawn)]
     if not judged:
         return
     slice, index, value = min(judged)[2]
+    cases.drawn[reason_of(cases, (slice, index, value))] += 1
     worker = rng.randrange(4)
     kind, given = rng.choice(((STEP, 0), (STEP, 0), (RUN, rng.randrange(6)), (MOVE, cases.memory.workers[worker]), (MOVE, rng.choice(used_slots(cases))),
                               (READ, cases.variables()), (READ, 63)))
@@ -147,6 +148,8 @@ def gathered(cases, calls):
         slot = cases.memory.workers[rng.randrange(2)]
         for worker in range(4):
             cases.call(MOVE, worker, slot)
+            if at_answers(cases) and rng.random() < 0.5:
+                cases.call(READ, rng.choice(at_answers(cases)), rng.choice((cases.variables(), 33)))
         for worker in rng.sample(range(4), rng.randint(2, 4)):
             cases.call(STEP, worker)
         if rng.random() < 0.5:
@@ -239,6 +242,35 @@ def of_full(cases, rules):
         cases.call(RUN, 0, given)
 
 
+def at_answers(cases):
+    """The workers that stand at a node without goals."""
+    return [w for w in range(4) if not cases.memory.field(cases.memory.workers[w], 2, 'goal')]
+
+
+def rich(cases):
+    """Slots enough, trail entries enough, workers apart, and one of them at an answer."""
+    memory, slots = cases.memory, used_slots(cases)
+    return len(slots) >= 6 and len(set(memory.workers)) >= 3 and sum(memory.field(s, 0, 'entries') for s in slots) >= 4 and at_answers(cases)
+
+
+def of_sweep(cases, rules):
+    """A memory with slots, entries and bound cells enough; then each word of it that matters gets one neighbour after another."""
+    rng, memory = cases.rng, cases.memory
+    start(cases, rules)
+    while not rich(cases):
+        worker = next_worker(cases)
+        cases.call(STEP, worker)
+        if rng.random() < 0.3:
+            cases.call(MOVE, worker, rng.choice(used_slots(cases)))
+    changes = [c for c in list(swept_nodes(cases)) + list(swept_words(cases)) if cases.place(c[0])[c[1]] != c[2]]
+    for slice, index, value in changes:
+        calls = [(RUN, 0), (READ, 40)]
+        if reason_of(cases, (slice, index, value)) != 'sound':
+            calls += [(STEP, 0), (RUN, 3), (MOVE, rng.randrange(3))]
+        kind, given = rng.choice(calls)
+        cases.change(slice, index, value, kind, rng.choice(at_answers(cases)) if kind == READ else rng.randrange(4), given)
+
+
 def of_page(cases, rules):
     """P6 to P9 of the page."""
     start(cases, rules)
@@ -271,8 +303,10 @@ def main():
     of_lengths(cases, named['page'])
     of_order(cases, named['page'])
     of_page(cases, named['page'])
-    for name in ('chain', 'deep', 'deep and bound'):
+    for name in ('chain', 'chain in turn', 'deep', 'deep and bound'):
         of_full(cases, named[name])
+    for name in ('references', 'clashes', 'extremes', 'in turn'):
+        of_sweep(cases, named[name])
     for rules in sets:
         start(cases, rules)
         alone(cases, 30)
@@ -308,7 +342,11 @@ def check(cases, sets):
                    'base of', 'has goal of', 'frame or index of', 'tried of', 'cell of', 'cell of past the variables', 'trail at the root', 'trail number of',
                    'trail number of again on its path', 'trailed cell of', 'trail value of', 'trail words of past its entries', 'worker', 'array of worker'):
         assert cases.reasons[reason] >= 3, (reason, cases.reasons[reason])
-    assert sum(cases.reasons.values()) >= 300
+    for part in range(4):
+        assert cases.places['zero field', NODES, part], part
+    for slice in (CELLS, TRAIL):
+        assert cases.places['free slot', slice, 0], slice
+    assert cases.reasons['sound'] >= 150 and met['refused', 21] >= 300
 
 
 def report(cases, sets, words):
@@ -316,8 +354,6 @@ def report(cases, sets, words):
         print(name, outcome)
     for reason, count in sorted(cases.reasons.items()):
         print('damaged memories:', reason, count)
-    for place, count in sorted(cases.places.items()):
-        print(place, count)
     print(sets, 'rule sets,', len(cases.schedules), 'schedules,', sum(len(turns) for *_, turns in cases.schedules), 'turns,', words, 'words')
 
 

@@ -134,3 +134,56 @@ def changed_rules(cases, slice):
         kind = 'predicate' if at else 'header'
     name, width = rng.choice(ref.WIDTHS[kind])
     return at, ref.put(kind, name, words[at], rng.getrandbits(width))
+
+
+def near_values(cases, slot):
+    """Words for a cell or a trail value of a slot: constants at both ends, tags that are none, references to cells near and far."""
+    ref, memory = cases.ref, cases.memory
+    words = [ref.tagged(ref.CON, c) for c in (0, 268435455, 268435456)] + [ref.tagged(3, 0), ref.tagged(7, 1), ref.tagged(ref.VNO, 0)]
+    for other in used_slots(cases):
+        size = memory.field(other, 0, 'variables')
+        words += [ref.tagged(ref.REF, 32 * other + k) for k in sorted({0, max(size - 1, 0), size % 32})]
+    return words + [ref.tagged(ref.REF, 2047), ref.tagged(ref.REF, 2048), ref.tagged(ref.REF, 0x1FFFFFFF)]
+
+
+def swept_nodes(cases):
+    """Every field of every used slot one more and one less, and as the other slots have it."""
+    ref, memory = cases.ref, cases.memory
+    for slot in used_slots(cases):
+        for part, name in sorted(set(FIELDS)):
+            width = dict(ref.WIDTHS['node%d' % part])[name]
+            now = memory.field(slot, part, name)
+            others = {memory.field(s, part, name) for s in used_slots(cases)} if name in ('parent', 'clause', 'frame') else set()
+            for value in sorted({now + 1, now - 1} | others - {now}):
+                if 0 <= value < 1 << width:
+                    yield NODES, 4 * slot + part, ref.put('node%d' % part, name, memory.nodes[4 * slot + part], value)
+
+
+def swept_words(cases):
+    """Cells, trails, arrays and workers; the first free slot."""
+    memory = cases.memory
+    for slot in used_slots(cases):
+        base, size, entries = memory.field(slot, 1, 'base'), memory.field(slot, 0, 'variables'), memory.entries_of(slot)
+        for k in range(min(size, 4)):
+            for value in [base + k, base + k + 1] + near_values(cases, slot):
+                yield CELLS, 32 * slot + k, value
+        for at in sorted({size % 32, 31}):
+            yield CELLS, 32 * slot + at, 1
+        for i in range(len(entries)):
+            numbers = [n for s in memory.path(slot) for n, _ in memory.entries_of(s)]
+            for number in sorted({0, 1, base - 1, base, MOST} | set(numbers)):
+                yield TRAIL, 32 * slot + 2 * i, number & MOST
+            for value in near_values(cases, slot):
+                yield TRAIL, 32 * slot + 2 * i + 1, value
+        for at in sorted({2 * len(entries), 2 * len(entries) + 1, 31}):
+            yield TRAIL, 32 * slot + min(at, 31), 1
+    for worker in range(4):
+        for number in sorted({0, 1, 2, 2047} | {n for s in memory.path(memory.workers[worker]) for n, _ in memory.entries_of(s)}):
+            for value in (0, 1, 0x40000000, 0x20000000):
+                yield ARRAYS, 2048 * worker + number, value
+        for slot in used_slots(cases) + [63, 64, 65, 128, MOST]:
+            yield WORKERS, worker, slot
+    free = next(s for s in range(64) if not memory.used(s))
+    for slice, size in ((NODES, 4), (CELLS, 32), (TRAIL, 32)):
+        for at in range(0, size, max(1, size // 4)):
+            yield slice, size * free + at, 1 << at % 31

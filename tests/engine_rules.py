@@ -69,6 +69,7 @@ def written_rules(ref):
         'same': ('q/2', 'q(A,A).', 'q(X,Y)'),
         'self': ('q/2', 'q(A,A).', 'q(X,X)'),
         'chain': ('n/0', 'n :- n.', 'n'),
+        'chain in turn': ('n/0*', 'n :- n. n.', 'n'),
         'chains': ('n/1', 'n(0). n(X) :- n(Y). n(1).', 'n(Z)'),
         'seven': ('b/1', 'b(0). b(1).', ', '.join('b(V%d)' % i for i in range(7))),
         'seven in turn': ('b/1*', 'b(0). b(1).', ', '.join('b(V%d)' % i for i in range(7))),

@@ -42,6 +42,7 @@ class Cases:
         self.met = collections.Counter()
         self.reasons = collections.Counter()
         self.places = collections.Counter()
+        self.drawn = collections.Counter()
 
     # -- schedules
 

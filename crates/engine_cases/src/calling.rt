@@ -1,22 +1,19 @@
 // A stored call is made on the memory, and its answer and all words afterwards are held against what is stored.
 use crate::answers::load_agrees;
+use crate::answers::memory_digest;
 use crate::answers::move_agrees;
 use crate::answers::run_agrees;
 use crate::answers::step_agrees;
-use crate::digest::memory_digest;
-use crate::input::next_word;
 use crate::room::read_call_agrees;
 use crate::stored::Call;
-use crate::stored::Want;
+use crate::stored::next_word;
 use crate::stored::part;
 use crate::stored::read_call;
-use crate::stored::read_want;
 use crate::tally::count_answer;
 
 // A load, a step or a run.
 fn change_agrees<'a>(
     call: Call,
-    want: Want,
     image: &'a [u32],
     query: &'a [u32],
     nodes: &mut [u32],
@@ -29,16 +26,16 @@ fn change_agrees<'a>(
     let budget = call.given;
     let kind = call.kind;
     match kind {
-        1 => load_agrees(
-            calls::load(image, query, nodes, cells, trail, arrays, workers),
-            want,
-        ),
-        2 => step_agrees(
-            calls::step(image, query, nodes, cells, trail, arrays, workers, worker),
-            want,
-        ),
-        _ => run_agrees(
-            calls::run(
+        1 => {
+            let answer = calls::load(image, query, nodes, cells, trail, arrays, workers);
+            load_agrees(answer, call)
+        }
+        2 => {
+            let answer = calls::step(image, query, nodes, cells, trail, arrays, workers, worker);
+            step_agrees(answer, call)
+        }
+        _ => {
+            let answer = calls::run(
                 image,
                 query,
                 nodes,
@@ -48,15 +45,14 @@ fn change_agrees<'a>(
                 workers,
                 worker,
                 budget,
-            ),
-            want,
-        ),
+            );
+            run_agrees(answer, call)
+        }
     }
 }
 
 fn move_call_agrees<'a>(
     call: Call,
-    want: Want,
     image: &'a [u32],
     query: &'a [u32],
     nodes: &[u32],
@@ -65,26 +61,25 @@ fn move_call_agrees<'a>(
     arrays: &mut [u32],
     workers: &mut [u32],
 ) -> bool {
-    move_agrees(
-        calls::move_worker(
-            image,
-            query,
-            nodes,
-            cells,
-            trail,
-            arrays,
-            workers,
-            call.worker,
-            call.given,
-        ),
-        want,
-    )
+    let worker = call.worker;
+    let slot = call.given;
+    let answer = calls::move_worker(
+        image,
+        query,
+        nodes,
+        cells,
+        trail,
+        arrays,
+        workers,
+        worker,
+        slot,
+    );
+    move_agrees(answer, call)
 }
 
 fn answer_agrees<'a>(
     fd: i32,
     call: Call,
-    want: Want,
     image: &'a [u32],
     query: &'a [u32],
     nodes: &mut [u32],
@@ -95,48 +90,16 @@ fn answer_agrees<'a>(
 ) -> bool {
     let kind = call.kind;
     match kind {
-        4 => move_call_agrees(
-            call,
-            want,
-            image,
-            query,
-            nodes,
-            cells,
-            trail,
-            arrays,
-            workers,
-        ),
-        5 => read_call_agrees(
-            fd,
-            call,
-            want,
-            image,
-            query,
-            nodes,
-            cells,
-            trail,
-            arrays,
-            workers,
-        ),
-        _ => change_agrees(
-            call,
-            want,
-            image,
-            query,
-            nodes,
-            cells,
-            trail,
-            arrays,
-            workers,
-        ),
+        4 => move_call_agrees(call, image, query, nodes, cells, trail, arrays, workers),
+        5 => read_call_agrees(fd, call, image, query, nodes, cells, trail, arrays, workers),
+        _ => change_agrees(call, image, query, nodes, cells, trail, arrays, workers),
     }
 }
 
-// The slices are lent with the lengths that the call asks for.
+// All slices are lent with the lengths that the call asks for; image and query have a spare word too.
 fn lent_agrees<'a>(
     fd: i32,
     call: Call,
-    want: Want,
     image: &'a [u32],
     query: &'a [u32],
     nodes: &mut [u32],
@@ -150,46 +113,18 @@ fn lent_agrees<'a>(
     let trail_words = part(trail.len(), 3, call);
     let array_words = part(arrays.len(), 4, call);
     let worker_words = part(workers.len(), 5, call);
+    let image_words = part(image.len(), 6, call);
+    let query_words = part(query.len(), 7, call);
     answer_agrees(
         fd,
         call,
-        want,
-        image,
-        query,
+        &image[..image_words],
+        &query[..query_words],
         &mut nodes[..node_words],
         &mut cells[..cell_words],
         &mut trail[..trail_words],
         &mut arrays[..array_words],
         &mut workers[..worker_words],
-    )
-}
-
-// Image and query are lent with the lengths that the call asks for; they have a spare word too.
-fn rules_agree<'a>(
-    fd: i32,
-    call: Call,
-    want: Want,
-    image: &'a [u32],
-    query: &'a [u32],
-    nodes: &mut [u32],
-    cells: &mut [u32],
-    trail: &mut [u32],
-    arrays: &mut [u32],
-    workers: &mut [u32],
-) -> bool {
-    let image_words = part(image.len(), 6, call);
-    let query_words = part(query.len(), 7, call);
-    lent_agrees(
-        fd,
-        call,
-        want,
-        &image[..image_words],
-        &query[..query_words],
-        nodes,
-        cells,
-        trail,
-        arrays,
-        workers,
     )
 }
 
@@ -206,22 +141,10 @@ pub fn call_agrees<'a>(
     tally: &mut [u32],
 ) -> bool {
     let call = read_call(fd);
-    let want = read_want(fd);
     let high = next_word(fd) as u64;
     let low = next_word(fd) as u64;
-    let good = rules_agree(
-        fd,
-        call,
-        want,
-        image,
-        query,
-        nodes,
-        cells,
-        trail,
-        arrays,
-        workers,
-    );
-    count_answer(tally, call, want);
+    let good = lent_agrees(fd, call, image, query, nodes, cells, trail, arrays, workers);
+    count_answer(tally, call);
     if memory_digest(nodes, cells, trail, arrays, workers) != high * 4294967296 + low {
         return false;
     }

@@ -1,6 +1,8 @@
 // A memory, an image or a query changed in one word: judged as it stands, used by a call, and put right again.
 use crate::calling::call_agrees;
-use crate::input::next_word;
+use crate::stored::Change;
+use crate::stored::next_word;
+use crate::stored::read_change;
 
 fn put(words: &mut [u32], index: u32, value: u32) {
     let at = index as usize;
@@ -12,9 +14,7 @@ fn put(words: &mut [u32], index: u32, value: u32) {
 
 // Slices by their numbers: 1 nodes to 5 workers, then image and query.
 fn put_word(
-    slice: u32,
-    index: u32,
-    value: u32,
+    change: Change,
     image: &mut [u32],
     query: &mut [u32],
     nodes: &mut [u32],
@@ -23,6 +23,9 @@ fn put_word(
     arrays: &mut [u32],
     workers: &mut [u32],
 ) {
+    let slice = change.slice;
+    let index = change.index;
+    let value = change.value;
     match slice {
         1 => put(nodes, index, value),
         2 => put(cells, index, value),
@@ -101,11 +104,20 @@ fn judged_agrees<'a>(
     good
 }
 
+// The same place gets the word that is stored next.
+fn next_change(fd: i32, change: Change) -> Change {
+    let value = next_word(fd);
+    Change {
+        slice: change.slice,
+        index: change.index,
+        value,
+    }
+}
+
 // The call is over, and the place gets the word that it has from here on.
 fn restored_agrees(
     fd: i32,
-    slice: u32,
-    index: u32,
+    change: Change,
     image: &mut [u32],
     query: &mut [u32],
     nodes: &mut [u32; 257],
@@ -126,19 +138,8 @@ fn restored_agrees(
         workers,
         tally,
     );
-    let after = next_word(fd);
-    put_word(
-        slice,
-        index,
-        after,
-        image,
-        query,
-        nodes,
-        cells,
-        trail,
-        arrays,
-        workers,
-    );
+    let after = next_change(fd, change);
+    put_word(after, image, query, nodes, cells, trail, arrays, workers);
     good
 }
 
@@ -155,24 +156,11 @@ pub fn changed_agrees(
     workers: &mut [u32; 5],
     tally: &mut [u32; 128],
 ) -> bool {
-    let index = next_word(fd);
-    let value = next_word(fd);
-    put_word(
-        slice,
-        index,
-        value,
-        image,
-        query,
-        nodes,
-        cells,
-        trail,
-        arrays,
-        workers,
-    );
+    let change = read_change(fd, slice);
+    put_word(change, image, query, nodes, cells, trail, arrays, workers);
     restored_agrees(
         fd,
-        slice,
-        index,
+        change,
         image,
         query,
         nodes,

@@ -3,14 +3,12 @@
 mod answers;
 mod calling;
 mod damage;
-mod digest;
-mod input;
 mod room;
 mod schedule;
 mod stored;
 mod tally;
 
-use input::next_word;
+use stored::next_word;
 use tally::say_agreed;
 use tally::say_outcomes;
 use tally::say_refusals;

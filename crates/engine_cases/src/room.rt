@@ -1,8 +1,7 @@
 // The room that an answer is read into: marked before the call, held against the stored words after it.
 use crate::answers::read_agrees;
-use crate::input::next_word;
 use crate::stored::Call;
-use crate::stored::Want;
+use crate::stored::next_word;
 
 fn mark(i: usize) -> u32 {
     3221225472 + (i % 65536) as u32
@@ -38,18 +37,17 @@ fn holds(fd: i32, room: &[u32], count: u32) -> bool {
 }
 
 // How many words a read that agrees has written.
-fn written(want: Want) -> u32 {
-    if want.number != 0 {
+fn written(call: Call) -> u32 {
+    if call.number != 0 {
         return 0;
     }
-    want.first
+    call.first
 }
 
 // The room may be longer than what is lent of it, to show that the words past that stay.
 fn read_into<'a>(
     fd: i32,
     call: Call,
-    want: Want,
     image: &'a [u32],
     query: &'a [u32],
     nodes: &[u32],
@@ -75,16 +73,15 @@ fn read_into<'a>(
         call.worker,
         &mut room[..size],
     );
-    if !holds(fd, room, written(want)) {
+    if !holds(fd, room, written(call)) {
         return false;
     }
-    read_agrees(answer, want)
+    read_agrees(answer, call)
 }
 
 pub fn read_call_agrees<'a>(
     fd: i32,
     call: Call,
-    want: Want,
     image: &'a [u32],
     query: &'a [u32],
     nodes: &[u32],
@@ -97,7 +94,6 @@ pub fn read_call_agrees<'a>(
     read_into(
         fd,
         call,
-        want,
         image,
         query,
         nodes,

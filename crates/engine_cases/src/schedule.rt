@@ -1,8 +1,8 @@
 // A stored schedule: image and query, each with a spare word at its end, then its calls.
 use crate::calling::call_agrees;
 use crate::damage::changed_agrees;
-use crate::input::next_word;
-use crate::input::read_list;
+use crate::stored::next_word;
+use crate::stored::read_list;
 use crate::tally::count;
 use libc::STDOUT_FILENO;
 ghost use Prim.Native.Nat.{_<_};

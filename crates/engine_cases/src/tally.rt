@@ -1,6 +1,5 @@
 // How often each thing was met: schedules, calls and damaged memories, and those of them that agree; each outcome; each refusal.
 use crate::stored::Call;
-use crate::stored::Want;
 use libc::STDOUT_FILENO;
 
 pub fn count(tally: &mut [u32], at: usize) {
@@ -15,21 +14,21 @@ pub fn count(tally: &mut [u32], at: usize) {
 }
 
 // Calls that were done stand from 40 on by their kinds, but steps and runs from 8 on by their outcomes; refusals stand from 64 on.
-fn place_of(call: Call, want: Want) -> usize {
-    if want.number != 0 {
-        return 64 + want.number as usize;
+fn place_of(call: Call) -> usize {
+    if call.number != 0 {
+        return 64 + call.number as usize;
     }
     if call.kind == 2 {
-        return 8 + want.first as usize;
+        return 8 + call.first as usize;
     }
     if call.kind == 3 {
-        return 8 + want.first as usize;
+        return 8 + call.first as usize;
     }
     40 + call.kind as usize
 }
 
-pub fn count_answer(tally: &mut [u32], call: Call, want: Want) {
-    count(tally, place_of(call, want));
+pub fn count_answer(tally: &mut [u32], call: Call) {
+    count(tally, place_of(call));
 }
 
 fn met(tally: &[u32], at: usize) -> u64 {

@@ -1,9 +1,9 @@
--- `engine_cases::input::read_list` is safe and ends. Assumes nothing.
+-- `engine_cases::stored::read_list` is safe and ends. Assumes nothing.
 use native.Mathlib.Omega.{arith}
 use lib.ListN.{length-take}
 use borrow.Author.Needs.{needs}
-use Rattle.engine_cases.proofs.input.read_list.Statement.{statement}
-use Rattle.engine_cases.proofs.input.read_list.Tie as tie
+use Rattle.engine_cases.proofs.stored.read_list.Statement.{statement}
+use Rattle.engine_cases.proofs.stored.read_list.Tie as tie
 
 next-word-requires : tie.Need-next-word-requires
 next-word-requires c κs = search needs

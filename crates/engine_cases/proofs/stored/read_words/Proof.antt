@@ -1,11 +1,11 @@
--- `engine_cases::input::read_words` is safe and ends; the loop keeps the lengths of what it is lent. Assumes nothing.
+-- `engine_cases::stored::read_words` is safe and ends; the loop keeps the lengths of what it is lent. Assumes nothing.
 use mathlib.Core.Path.{_≡_, refl, _∙_}
 use Prim.Native.Nat.{_-_}
 use native.Mathlib.Omega.{arith}
 use lib.ListN.{length, length-set}
 use borrow.Author.Needs.{needs}
-use Rattle.engine_cases.proofs.input.read_words.Statement.{statement}
-use Rattle.engine_cases.proofs.input.read_words.Tie as tie
+use Rattle.engine_cases.proofs.stored.read_words.Statement.{statement}
+use Rattle.engine_cases.proofs.stored.read_words.Tie as tie
 
 abbrev Inv-loop : tie.InvT-loop
 Inv-loop fd words₀ i₀ words i = length words ≡ length words₀

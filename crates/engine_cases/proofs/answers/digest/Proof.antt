@@ -1,10 +1,10 @@
--- `engine_cases::digest::digest` is safe and ends. Assumes nothing.
+-- `engine_cases::answers::digest` is safe and ends. Assumes nothing.
 use Prim.Native.Nat.{_-_, _<_}
 use native.Mathlib.Omega.{arith}
 use lib.ListN.{length}
 use borrow.Author.Needs.{needs}
-use Rattle.engine_cases.proofs.digest.digest.Statement.{statement}
-use Rattle.engine_cases.proofs.digest.digest.Tie as tie
+use Rattle.engine_cases.proofs.answers.digest.Statement.{statement}
+use Rattle.engine_cases.proofs.answers.digest.Tie as tie
 
 abbrev Inv-loop : tie.InvT-loop
 Inv-loop words start sum₀ i₀ sum i = sum < 4294967311
