@@ -13,14 +13,6 @@ use Rattle.model.specs.Decoding.{clauseNext}
 use Rattle.model.specs.Damage.{amongClauses}
 use Rattle.words.specs.FieldLaws.{field-lt}
 
-pub clauseLength-lt : (word : ℕ) → clauseLength word < 65536
-unfolding widthsOf
-clauseLength-lt word = field-lt (widthsOf Clause) word 3
-
-pub firstClause-lt : (word : ℕ) → firstClause word < 131072
-unfolding widthsOf
-firstClause-lt word = field-lt (widthsOf Predicate) word 3
-
 module _ (image : List ℕ) (position : ℕ) where
   pub among-end : (left at : ℕ) → left ≤ 0 → false ≡ amongClauses left image at position
   unfolding amongClauses

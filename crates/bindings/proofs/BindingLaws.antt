@@ -1,4 +1,4 @@
--- One turn of each loop over numbers and up a path, and how large a field of a node can be. Assumes nothing.
+-- One turn of each loop over numbers and up a path. Assumes nothing.
 use mathlib.Core.Path.{_≡_, refl, sym, ap}
 use mathlib.Core.Bool.{Bool, true, false}
 use mathlib.Core.List.{List}
@@ -7,32 +7,8 @@ use native.Mathlib.Omega.{arith}
 use lib.Dec.{eqb}
 use lib.ListN.{getD}
 use borrow.Author.Tests.{eq-eqb, ne-eqb, le-leb, lt-leb}
-use Rattle.model.specs.declared.Kind.the-variants.{Node0, Node1, Node2}
-use Rattle.model.specs.Fields.{widthsOf}
-use Rattle.model.specs.Memory.{parent, depth, entries, ownVariables, base, goalIndex}
+use Rattle.model.specs.Memory.{parent, entries, ownVariables, base}
 use Rattle.model.specs.Damage.{each, onPath, ownerOf, notAmong, notAbove}
-use Rattle.words.specs.FieldLaws.{field-lt}
-
-module _ (nodes : List ℕ) (slot : ℕ) where
-  pub depth-lt : depth nodes slot < 64
-  unfolding widthsOf
-  depth-lt = field-lt (widthsOf Node0) (getD nodes (4 * slot + 0) 0) 2
-
-  pub entries-lt : entries nodes slot < 16
-  unfolding widthsOf
-  entries-lt = field-lt (widthsOf Node0) (getD nodes (4 * slot + 0) 0) 3
-
-  pub ownVariables-lt : ownVariables nodes slot < 64
-  unfolding widthsOf
-  ownVariables-lt = field-lt (widthsOf Node0) (getD nodes (4 * slot + 0) 0) 4
-
-  pub base-lt : base nodes slot < 4096
-  unfolding widthsOf
-  base-lt = field-lt (widthsOf Node1) (getD nodes (4 * slot + 1) 0) 0
-
-  pub goalIndex-lt : goalIndex nodes slot < 16
-  unfolding widthsOf
-  goalIndex-lt = field-lt (widthsOf Node2) (getD nodes (4 * slot + 2) 0) 2
 
 -- a test of so many numbers from one on, whatever it tests: none is left, the next fails, or it holds and the others are left
 module _ (test : ℕ → Bool) where

@@ -20,9 +20,9 @@ use Rattle.model.specs.Terms.{Store, store, unifyHead}
 use Rattle.model.specs.Steps.{View, view, stepped, goalOf, predicateOf, live, hasChild, lowestFree, undone, laid, raised, failed, headStore, takeClause, liveRule, step}
 use Rattle.passing.specs.Clash.{clashes, failsPlainly}
 use Rattle.passing.specs.Passing.{Passing, passing, passOver, blank, skipped}
-use Rattle.passing.proofs.FieldBounds.{clauseCount-lt}
 use Rattle.passing.proofs.ClashLaws.{clash-undone}
 use Rattle.extension.proofs.TakeLaws.{head-from, failure-from, take-failed}
+use Rattle.memory.proofs.FieldBounds.{clauseCount-lt}
 use Rattle.engine.specs.Progress.{Tries}
 use Rattle.engine.proofs.RuleLaws.{liveRule-take}
 use Rattle.engine.proofs.StepLaws.{live-untried, step-live}

@@ -18,8 +18,8 @@ use Rattle.model.specs.Damage.{each, zeros}
 use Rattle.model.specs.Steps.{View, view, stepped, goalOf, predicateOf, hasChild, live, lowestFree, step}
 use Rattle.passing.specs.Clash.{failsPlainly}
 use Rattle.passing.specs.Passing.{Passing, passing, passOver, blank, skipped}
-use Rattle.goals.proofs.PlaceLaws.{clauseAt-lt}
-use Rattle.extension.proofs.FieldBounds.{goalOf-lt, tried-lt}
+use Rattle.goals.proofs.PlaceLaws.{clauseAt-lt, goalOf-lt}
+use Rattle.memory.proofs.FieldBounds.{tried-lt}
 use Rattle.engine.specs.Progress.{Tries}
 use Rattle.engine.proofs.RuleLaws.{liveRule-wait, liveRule-full}
 use Rattle.engine.proofs.StepLaws.{live-holds, step-live}

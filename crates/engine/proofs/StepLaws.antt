@@ -13,7 +13,7 @@ use Rattle.model.specs.Fields.{sequential, clauseCount}
 use Rattle.model.specs.Memory.{hasGoal, tried}
 use Rattle.model.specs.Image.{predicateWord}
 use Rattle.model.specs.Steps.{View, Stepped, stepped, goalOf, predicateOf, live, hasChild, anotherThere, lowestFree, deadRule, liveRule, nodeRule, step, Ran, ran, goOn, runFrom}
-use Rattle.engine.specs.declared.LiveGoal.the-variants.{Dead, Live}
+use Rattle.engine.specs.declared.live.LiveGoal.the-variants.{Dead, Live}
 use Rattle.engine.specs.Live.{liveGoal}
 use Rattle.engine.specs.Runs.{stops, lastCount}
 

@@ -1,2 +1,1 @@
-pub mod FieldBounds
 pub mod TakeLaws

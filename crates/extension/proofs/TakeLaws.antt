@@ -17,7 +17,7 @@ use Rattle.model.specs.Goals.{clauseWords, childGoal}
 use Rattle.model.specs.Terms.{Store, store, unifyHead}
 use Rattle.model.specs.Steps.{View, view, Stepped, stepped, goalOf, predicateOf, undone, laid, raised, grown, arrival, failed, succeeded, headStore, withStore, taken, takeClause}
 use Rattle.terms.proofs.HeadLaws.{counted, unifyHead-count}
-use Rattle.extension.proofs.FieldBounds.{arity-lt}
+use Rattle.memory.proofs.FieldBounds.{arity-lt}
 
 pub head-from : (image query nodes array cells trail : List ℕ) (node child predicate position : ℕ) (slot place start own count own! : ℕ) (words blank : List ℕ)
     → slot ≡ frame nodes node → words ≡ clauseWords image query nodes slot → place ≡ goalOf image query nodes node → start ≡ base nodes node → own ≡ ownVariables nodes node

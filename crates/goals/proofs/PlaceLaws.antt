@@ -7,26 +7,14 @@ use native.Mathlib.Omega.{arith}
 use lib.Dec.{eqb}
 use lib.ListN.{getD}
 use borrow.Author.Tests.{eq-eqb, ne-eqb, lt-ltb, le-ltb}
-use Rattle.model.specs.declared.Kind.the-variants.{Predicate, Clause, Node2}
 use Rattle.model.specs.declared.FirstGoal.the-variants.{NoGoal, Goal}
-use Rattle.model.specs.Fields.{widthsOf, op, arity, clauseLength, firstClause, goalPredicate}
-use Rattle.model.specs.Memory.{parent, frame, goalIndex}
+use Rattle.model.specs.Fields.{op, arity, clauseLength, firstClause, goalPredicate}
+use Rattle.model.specs.Memory.{parent, clausePosition, frame, goalIndex}
 use Rattle.model.specs.Image.{predicateWord}
 use Rattle.model.specs.Decoding.{goalNext, goalFrom, clauseNext, clauseFrom, clauseAt}
-use Rattle.model.specs.Goals.{pastHead, goalPlace, goalsOf, nextGoal}
-use Rattle.words.specs.FieldLaws.{field-lt}
-
-arity-lt : (word : ℕ) → arity word < 16
-unfolding widthsOf
-arity-lt word = field-lt (widthsOf Predicate) word 0
-
-clauseLength-lt : (word : ℕ) → clauseLength word < 65536
-unfolding widthsOf
-clauseLength-lt word = field-lt (widthsOf Clause) word 3
-
-pub goalIndex-lt : (nodes : List ℕ) (slot : ℕ) → goalIndex nodes slot < 16
-unfolding widthsOf
-goalIndex-lt nodes slot = field-lt (widthsOf Node2) (getD nodes (4 * slot + 2) 0) 2
+use Rattle.model.specs.Goals.{clauseWords, pastHead, goalPlace, goalsOf, nextGoal}
+use Rattle.model.specs.Steps.{goalOf}
+use Rattle.memory.proofs.FieldBounds.{arity-lt, firstClause-lt, clauseLength-lt, clausePosition-lt, goalIndex-lt}
 
 pub pastHead-end : (words : List ℕ) (left at : ℕ) → left ≤ 0 → at ≡ pastHead left words at
 unfolding pastHead
@@ -80,10 +68,6 @@ clauseFrom-turn image (suc left) at h = let s : suc left - 1 ≡ left = omega ar
 pub clauseNext-le : (image : List ℕ) (at : ℕ) → at + clauseLength (getD image at 0) ≤ at + 65535
 clauseNext-le image at = omega (arith, clauseLength-lt (getD image at 0))
 
-pub firstClause-lt : (word : ℕ) → firstClause word < 131072
-unfolding widthsOf
-firstClause-lt word = field-lt (widthsOf Predicate) word 3
-
 -- the climb: a goal remains here, there is nothing above, this is the root, or it goes on
 module _ (image query nodes : List ℕ) (slot index : ℕ) where
   pub nextGoal-here : (depth : ℕ) → index + 1 < goalsOf image query nodes slot → Goal slot (index + 1) ≡ nextGoal depth image query nodes slot index
@@ -125,7 +109,12 @@ unfolding goalFrom
 goalFrom-le image words zero at = omega arith
 goalFrom-le image words (suc goals) at = omega (arith, goalFrom-le image words goals (goalNext image words at), goalNext-le image words at)
 
-pub goalPlace-le : (image words : List ℕ) (position index : ℕ) → goalPlace image words position index ≤ position + 16 + 16 * index
+goalPlace-le : (image words : List ℕ) (position index : ℕ) → goalPlace image words position index ≤ position + 16 + 16 * index
 unfolding goalPlace
 goalPlace-le image words position index =
     omega (arith, goalFrom-le image words index (pastHead 15 words (position + 1)), pastHead-le 15 words (position + 1))
+
+pub goalOf-lt : (image query nodes : List ℕ) (node : ℕ) → goalOf image query nodes node < 1048576
+goalOf-lt image query nodes node =
+    let slot = frame nodes node in
+    omega (arith, goalPlace-le image (clauseWords image query nodes slot) (clausePosition nodes slot) (goalIndex nodes node), clausePosition-lt nodes slot, goalIndex-lt nodes node)

@@ -1,1 +1,2 @@
 pub mod LoopLaws
+pub mod FieldBounds

@@ -8,12 +8,9 @@ use native.Mathlib.Omega.{arith}
 use lib.Dec.{eqb}
 use lib.ListN.{getD, set}
 use borrow.Author.Tests.{eq-eqb, ne-eqb}
-use Rattle.model.specs.declared.Kind.the-variants.{Node0, Node2}
-use Rattle.model.specs.Fields.{widthsOf, field}
 use Rattle.model.specs.Memory.{cleared, vnoWord, used, parent, entries}
 use Rattle.model.specs.Steps.{childFrom, anotherFrom, freeFrom, undone, laid}
 use Rattle.model.specs.Moves.{installed, climbed, leg}
-use Rattle.words.specs.FieldLaws.{field-lt}
 
 pub cleared-turn : (left at : ℕ) (words : List ℕ) → 0 < left → cleared (left - 1) (at + 1) (set words at 0) ≡ cleared left at words
 unfolding cleared
@@ -121,16 +118,6 @@ pub freeFrom-miss : (nodes : List ℕ) (left slot : ℕ) → 0 < left → used n
 unfolding freeFrom
 freeFrom-miss nodes zero slot h e = absurd (omega arith)
 freeFrom-miss nodes (suc left) slot h e = let s : suc left - 1 ≡ left = omega arith in rw (s, eq-eqb (used nodes slot) 1 e, freeFrom) refl
-
--- a count of clauses tried has ten bits
-pub tried-lt : (word : ℕ) → field (widthsOf Node2) word 3 < 1024
-unfolding widthsOf
-tried-lt word = field-lt (widthsOf Node2) word 3
-
--- a slot's trail entries are counted by four bits
-pub entries-lt : (nodes : List ℕ) (slot : ℕ) → entries nodes slot < 16
-unfolding widthsOf
-entries-lt nodes slot = field-lt (widthsOf Node0) (getD nodes (4 * slot + 0) 0) 3
 
 -- a walk up, whatever it does to the array: it has climbed as often as it may, it is there, or it goes on
 module _ (change : ℕ → List ℕ → ℕ → List ℕ → List ℕ) (nodes trail : List ℕ) (ancestor : ℕ) where

@@ -13,18 +13,7 @@ use Rattle.model.specs.Memory.{memory, parent, depth, entries, cellOf, withArra
 use Rattle.model.specs.Steps.{undone}
 use Rattle.model.specs.Moves.{meeting, commonAncestor, Leg, leg, installed, climbed, legs, moved, move}
 use Rattle.words.specs.FieldLaws.{field-lt}
-
-pub depth-lt : (nodes : List ℕ) (slot : ℕ) → depth nodes slot < 64
-unfolding widthsOf
-depth-lt nodes slot = field-lt (widthsOf Node0) _ 2
-
-pub entries-lt : (nodes : List ℕ) (slot : ℕ) → entries nodes slot < 16
-unfolding widthsOf
-entries-lt nodes slot = field-lt (widthsOf Node0) _ 3
-
-pub parent-lt : (nodes : List ℕ) (slot : ℕ) → parent nodes slot < 64
-unfolding widthsOf
-parent-lt nodes slot = field-lt (widthsOf Node0) _ 1
+use Rattle.memory.proofs.FieldBounds.{entries-lt}
 
 module _ (nodes : List ℕ) where
   pub meeting-end : (left slot other : ℕ) → left ≤ 0 → slot ≡ meeting left nodes slot other
@@ -54,27 +43,7 @@ module _ (nodes : List ℕ) where
       rw (s, ne-eqb slot other e, le-ltb (depth nodes slot) (depth nodes other) d, meeting) refl
 
 module _ (change : ℕ → List ℕ → ℕ → List ℕ → List ℕ) (nodes trail : List ℕ) (ancestor : ℕ) where
-  pub climbed-end : (left slot : ℕ) (array : List ℕ) (passed : ℕ) → left ≤ 0 → leg array passed ≡ climbed change left nodes trail ancestor slot array passed
-  unfolding climbed
-  climbed-end zero slot array passed h = refl
-  climbed-end (suc left) slot array passed h = absurd (omega arith)
-
-  pub climbed-there : (left slot : ℕ) (array : List ℕ) (passed : ℕ) → slot ≡ ancestor → leg array passed ≡ climbed change left nodes trail ancestor slot array passed
-  unfolding climbed
-  climbed-there zero slot array passed e = refl
-  climbed-there (suc left) slot array passed e = rw (eq-eqb slot ancestor e, climbed) refl
-
-  pub climbed-turn : (left slot : ℕ) (array : List ℕ) (passed : ℕ) (after : List ℕ) (count next : ℕ) → 0 < left → (slot ≡ ancestor → ⊥)
-      → after ≡ change count trail (32 * slot) array → count ≡ entries nodes slot → next ≡ parent nodes slot
-      → climbed change (left - 1) nodes trail ancestor next after (passed + count) ≡ climbed change left nodes trail ancestor slot array passed
-  unfolding climbed
-  climbed-turn zero slot array passed after count next h e ea ec en = absurd (omega arith)
-  climbed-turn (suc left) slot array passed after count next h e ea ec en =
-      let s : suc left - 1 ≡ left = omega arith in
-      let z : cellOf slot 0 ≡ 32 * slot = omega arith in
-      rw (s, ea, en, ec, ne-eqb slot ancestor e, climbed, z) refl
-
-  pub climbed-passed : (left slot : ℕ) (array : List ℕ) (passed : ℕ) → climbed change left nodes trail ancestor slot array passed .passed ≤ passed + 16 * left
+  climbed-passed : (left slot : ℕ) (array : List ℕ) (passed : ℕ) → climbed change left nodes trail ancestor slot array passed .passed ≤ passed + 16 * left
   unfolding climbed
   climbed-passed zero slot array passed = omega arith
   climbed-passed (suc left) slot array passed =

@@ -121,10 +121,6 @@ module _ (array cells : List ℕ) where
       written-front (answerFrom count array cells 0 []) room (omega (arith, answer-length count 0 []))
       ∙ ap (λ (n : ℕ). answerFrom count array cells 0 [] ++ drop n room) (answer-length count 0 [])
 
-pub variables-lt : (word : ℕ) → variables word < 64
-unfolding widthsOf
-variables-lt word = field-lt (widthsOf Clause) word 1
-
 -- an answer read from the worker's own part of the arrays
 pub answer-of : (query nodes cells trail arrays workers : List ℕ) (worker k own : ℕ) (room after : List ℕ) → k ≡ 2048 → own ≡ variables (getD query 0 0)
     → after ≡ answerFrom own (take k (drop (2048 * worker) arrays)) cells 0 [] ++ drop own room

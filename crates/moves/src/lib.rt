@@ -11,8 +11,7 @@ ghost use Rattle.model.specs.declared.Kind.the-variants.{Var, Con};
 ghost use Rattle.model.specs.Fields.{variables};
 ghost use Rattle.model.specs.Memory.{memory, wordOf, cellOf, arrayOf};
 ghost use Rattle.model.specs.Terms.{dereference};
-ghost use Rattle.model.specs.Steps.{undone};
-ghost use Rattle.model.specs.Moves.{loaded, commonAncestor, leg, installed, climbed, legs, moved, move, placeOf, answerWord, seenWithFound, answerFrom, answer};
+ghost use Rattle.model.specs.Moves.{loaded, commonAncestor, leg, legs, moved, move, placeOf, answerWord, seenWithFound, answerFrom, answer};
 
 // Where the paths of two slots to the root meet: the deeper one climbs.
 pub fn common_ancestor(nodes: &[u32], slot: u32, other: u32) -> u32
@@ -35,64 +34,6 @@ pub fn common_ancestor(nodes: &[u32], slot: u32, other: u32) -> u32
     here
 }
 
-// From a slot up to an ancestor, over at most so many slots: their trail entries are taken out of the array, and counted on.
-fn climb_undo(
-    array: &mut [u32],
-    nodes: &[u32],
-    trail: &[u32],
-    most: u32,
-    ancestor: u32,
-    start: u32,
-    before: u32,
-) -> u32
-    requires { ⌜ (most < 64) × (before < 1048576) ⌝ }
-    ensures { λ r. ⌜ leg (now (array .exit)) r ≡ climbed undone most (now (nodes .entry)) (now (trail .entry)) ancestor start (now (array .entry)) before ⌝ }
-{
-    let mut slot = start;
-    let mut passed = before;
-    let mut left = most;
-    while 0 < left {
-        if slot == ancestor {
-            return passed;
-        }
-        let count = memory::entries(nodes, slot);
-        memory::undo(array, trail, 32 * slot as usize, count);
-        passed += count;
-        slot = memory::parent(nodes, slot);
-        left -= 1;
-    }
-    passed
-}
-
-// The same walk, which puts the entries into the array.
-fn climb_install(
-    array: &mut [u32],
-    nodes: &[u32],
-    trail: &[u32],
-    most: u32,
-    ancestor: u32,
-    start: u32,
-    before: u32,
-) -> u32
-    requires { ⌜ (most < 64) × (before < 1048576) ⌝ }
-    ensures { λ r. ⌜ leg (now (array .exit)) r ≡ climbed installed most (now (nodes .entry)) (now (trail .entry)) ancestor start (now (array .entry)) before ⌝ }
-{
-    let mut slot = start;
-    let mut passed = before;
-    let mut left = most;
-    while 0 < left {
-        if slot == ancestor {
-            return passed;
-        }
-        let count = memory::entries(nodes, slot);
-        memory::install(array, trail, 32 * slot as usize, count);
-        passed += count;
-        slot = memory::parent(nodes, slot);
-        left -= 1;
-    }
-    passed
-}
-
 // Takes one worker's array from a slot to another, and counts the entries passed.
 fn move_array(array: &mut [u32], nodes: &[u32], trail: &[u32], here: u32, target: u32) -> u32
     ensures { λ r. ⌜ leg (now (array .exit)) r ≡ legs (now (nodes .entry)) (now (trail .entry)) here target (now (array .entry)) ⌝ }
@@ -100,8 +41,8 @@ fn move_array(array: &mut [u32], nodes: &[u32], trail: &[u32], here: u32, target
     let ancestor = common_ancestor(nodes, here, target);
     let above = memory::depth(nodes, here);
     let below = memory::depth(nodes, target);
-    let passed = climb_undo(array, nodes, trail, above, ancestor, here, 0);
-    climb_install(array, nodes, trail, below, ancestor, target, passed)
+    let passed = memory::climb_undo(array, nodes, trail, ancestor, here, above, 0);
+    memory::climb_install(array, nodes, trail, ancestor, target, below, passed)
 }
 
 // Takes a worker to a slot, and answers how many entries it passed. The promise holds whatever the cells are: a move does not look at them.

@@ -10,12 +10,10 @@ use Rattle.model.specs.declared.Found.{Found}
 use Rattle.model.specs.declared.Found.the-variants.{Unbound, Constant}
 use Rattle.model.specs.declared.VarNo.{VarNo}
 use Rattle.model.specs.declared.CellAddr.{CellAddr}
-use Rattle.model.specs.declared.Kind.the-variants.{Clause}
-use Rattle.model.specs.Fields.{widthsOf, op, constant, variables, clauseLength}
+use Rattle.model.specs.Fields.{op, constant, variables, clauseLength}
 use Rattle.model.specs.Terms.{argumentOf}
 use Rattle.model.specs.Damage.{zeros}
 use Rattle.model.specs.Steps.{raised}
-use Rattle.words.specs.FieldLaws.{field-lt}
 use Rattle.passing.specs.declared.Compared.{Compared}
 use Rattle.passing.specs.declared.Compared.the-variants.{Differ, Agree, Unsure}
 use Rattle.passing.specs.Clash.{comparedWith, compare, clashes, failsPlainly}
@@ -90,10 +88,6 @@ module _ (image words array cells : List ℕ) (slot childBase : ℕ) where
       → clashes arity image words array cells slot childBase (position + 1) (place + 1) ≡ failsPlainly arity image words array cells slot childBase position place
   unfolding failsPlainly
   failsPlainly-ground arity position place e = simp (eq-eqb (variables (getD image position 0)) 0 e)
-
-pub clauseLength-lt : (word : ℕ) → clauseLength word < 65536
-unfolding widthsOf
-clauseLength-lt word = field-lt (widthsOf Clause) word 3
 
 module _ (arity node : ℕ) (image words array cells : List ℕ) (slot childBase place : ℕ) where
   pub passOver-end : (left count : ℕ) (nodes : List ℕ) (position : ℕ) → left ≤ 0

@@ -6,7 +6,8 @@ use lib.ListN.{getD}
 use borrow.Author.Needs.{needs}
 use Rattle.model.specs.Damage.{amongClauses}
 use Rattle.model.specs.Fields.{clauseLength}
-use Rattle.audit.proofs.AuditLaws.{clauseLength-lt, among-end, among-hit, among-miss}
+use Rattle.memory.proofs.FieldBounds.{clauseLength-lt}
+use Rattle.audit.proofs.AuditLaws.{among-end, among-hit, among-miss}
 use Rattle.audit.proofs.among_clauses.Statement.{statement}
 use Rattle.audit.proofs.among_clauses.Tie as tie
 

@@ -8,7 +8,7 @@ use borrow.Author.Needs.{needs}
 use Rattle.model.specs.Damage.{pathArray, sameWords}
 use Rattle.model.specs.Moves.{Leg, installed, climbed}
 use Rattle.model.specs.Memory.{depth, arrayOf}
-use Rattle.bindings.proofs.BindingLaws.{depth-lt}
+use Rattle.memory.proofs.FieldBounds.{depth-lt}
 use Rattle.audit.proofs.array_sound.Statement.{statement}
 use Rattle.audit.proofs.array_sound.Tie as tie
 

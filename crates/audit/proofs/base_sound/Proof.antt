@@ -7,7 +7,7 @@ use borrow.Author.Needs.{needs}
 use borrow.Author.Tests.{eq-eqb, ne-eqb}
 use Rattle.model.specs.Damage.{baseSound}
 use Rattle.model.specs.Memory.{parent, ownVariables, base}
-use Rattle.bindings.proofs.BindingLaws.{ownVariables-lt, base-lt}
+use Rattle.memory.proofs.FieldBounds.{ownVariables-lt, base-lt}
 use Rattle.audit.proofs.base_sound.Statement.{statement}
 use Rattle.audit.proofs.base_sound.Tie as tie
 

@@ -7,8 +7,7 @@ use borrow.Author.Tests.{eq-eqb, ne-eqb}
 use Rattle.model.specs.Damage.{amongClauses, calledWord, linked}
 use Rattle.model.specs.Memory.{used, parent, depth, clausePosition, hasGoal, tried}
 use Rattle.model.specs.Fields.{firstClause}
-use Rattle.bindings.proofs.BindingLaws.{depth-lt}
-use Rattle.audit.proofs.AuditLaws.{firstClause-lt}
+use Rattle.memory.proofs.FieldBounds.{firstClause-lt, depth-lt}
 use Rattle.audit.proofs.linked.Statement.{statement}
 use Rattle.audit.proofs.linked.Tie as tie
 

@@ -8,7 +8,7 @@ use Rattle.model.specs.Damage.{clauseOf, ruleGoal}
 use Rattle.model.specs.Goals.{childGoal}
 use Rattle.model.specs.Memory.{parent, frame, goalIndex}
 use Rattle.model.specs.Fields.{goalCount}
-use Rattle.bindings.proofs.BindingLaws.{goalIndex-lt}
+use Rattle.memory.proofs.FieldBounds.{goalIndex-lt}
 use Rattle.audit.proofs.rule_goal.Statement.{statement}
 use Rattle.audit.proofs.rule_goal.Tie as tie
 

@@ -8,7 +8,7 @@ use borrow.Author.Needs.{needs}
 use borrow.Author.Tests.{lt-ltb, le-ltb, eq-eqb, ne-eqb}
 use Rattle.model.specs.Damage.{valueSound, cellSound}
 use Rattle.model.specs.Memory.{ownVariables, base, vnoWord, cellOf}
-use Rattle.bindings.proofs.BindingLaws.{base-lt}
+use Rattle.memory.proofs.FieldBounds.{base-lt}
 use Rattle.bindings.proofs.cell_sound.Statement.{statement}
 use Rattle.bindings.proofs.cell_sound.Tie as tie
 

@@ -6,7 +6,8 @@ use borrow.Author.Needs.{needs}
 use borrow.Author.Tests.{not-true, not-false}
 use Rattle.model.specs.Damage.{each, entrySound}
 use Rattle.model.specs.Memory.{entries}
-use Rattle.bindings.proofs.BindingLaws.{entries-lt, each-end, each-fail, each-turn}
+use Rattle.memory.proofs.FieldBounds.{entries-lt}
+use Rattle.bindings.proofs.BindingLaws.{each-end, each-fail, each-turn}
 use Rattle.bindings.proofs.entries_sound.Statement.{statement}
 use Rattle.bindings.proofs.entries_sound.Tie as tie
 

@@ -6,7 +6,7 @@ use borrow.Author.Needs.{needs}
 use borrow.Author.Tests.{lt-ltb, le-ltb}
 use Rattle.model.specs.Damage.{onPath, refSound}
 use Rattle.model.specs.Memory.{depth, ownVariables, base}
-use Rattle.bindings.proofs.BindingLaws.{base-lt}
+use Rattle.memory.proofs.FieldBounds.{base-lt}
 use Rattle.bindings.proofs.ref_sound.Statement.{statement}
 use Rattle.bindings.proofs.ref_sound.Tie as tie
 

@@ -8,7 +8,7 @@ use borrow.Author.Needs.{needs}
 use borrow.Author.Tests.{not-true, not-false}
 use Rattle.model.specs.Damage.{zeros, trailSound}
 use Rattle.model.specs.Memory.{entries, numberAt}
-use Rattle.bindings.proofs.BindingLaws.{entries-lt}
+use Rattle.memory.proofs.FieldBounds.{entries-lt}
 use Rattle.bindings.proofs.trail_sound.Statement.{statement}
 use Rattle.bindings.proofs.trail_sound.Tie as tie
 

@@ -2,7 +2,7 @@
 use native.Mathlib.Omega.{arith}
 use borrow.Author.Needs.{needs}
 use Rattle.model.specs.Steps.{grown}
-use Rattle.extension.proofs.FieldBounds.{depth-lt, base-lt, ownVariables-lt}
+use Rattle.memory.proofs.FieldBounds.{depth-lt, ownVariables-lt, base-lt}
 use Rattle.extension.proofs.grow.Statement.{statement}
 use Rattle.extension.proofs.grow.Tie as tie
 

@@ -3,8 +3,8 @@ use mathlib.Core.Path.{ap, _∙_}
 use native.Mathlib.Omega.{arith}
 use borrow.Author.Needs.{needs}
 use Rattle.model.specs.Fields.{variables, goalCount}
+use Rattle.memory.proofs.FieldBounds.{goalIndex-lt}
 use Rattle.extension.proofs.TakeLaws.{success-from}
-use Rattle.goals.proofs.PlaceLaws.{goalIndex-lt}
 use Rattle.extension.proofs.succeed.Statement.{statement}
 use Rattle.extension.proofs.succeed.Tie as tie
 

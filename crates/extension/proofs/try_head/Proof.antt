@@ -3,8 +3,9 @@ use mathlib.Core.Path.{ap, _∙_}
 use native.Mathlib.Omega.{arith}
 use borrow.Author.Needs.{needs}
 use Rattle.model.specs.Fields.{arity, variables}
+use Rattle.goals.proofs.PlaceLaws.{goalOf-lt}
+use Rattle.memory.proofs.FieldBounds.{arity-lt, variables-lt, ownVariables-lt, base-lt, frame-lt}
 use Rattle.extension.proofs.TakeLaws.{head-from}
-use Rattle.extension.proofs.FieldBounds.{base-lt, ownVariables-lt, variables-lt, frame-lt, goalOf-lt, arity-lt}
 use Rattle.extension.proofs.try_head.Statement.{statement}
 use Rattle.extension.proofs.try_head.Tie as tie
 

@@ -7,7 +7,8 @@ use borrow.Fn.Kinds.{In}
 use borrow.Fn.PlainCycle.{Measures, is, falls, and}
 use Rattle.model.specs.Memory.{frame, goalIndex}
 use Rattle.model.specs.Goals.{nextGoal}
-use Rattle.goals.proofs.PlaceLaws.{goalIndex-lt, nextGoal-here, nextGoal-top, nextGoal-root, nextGoal-up}
+use Rattle.memory.proofs.FieldBounds.{goalIndex-lt}
+use Rattle.goals.proofs.PlaceLaws.{nextGoal-here, nextGoal-top, nextGoal-root, nextGoal-up}
 use Rattle.goals.proofs.next_goal.Reads as next-goal
 use Rattle.goals.proofs.next_goal.Kinds as next-goal-kinds
 use Rattle.goals.proofs.+next_goal.Lts-next_goal as next-goal-lts

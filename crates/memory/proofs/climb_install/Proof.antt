@@ -6,7 +6,8 @@ use native.Mathlib.Omega.{arith}
 use lib.ListN.{length}
 use borrow.Author.Needs.{needs}
 use Rattle.model.specs.Moves.{installed, climbed}
-use Rattle.memory.proofs.LoopLaws.{climbed-there, climbed-turn, climbed-end, entries-lt}
+use Rattle.memory.proofs.FieldBounds.{entries-lt}
+use Rattle.memory.proofs.LoopLaws.{climbed-there, climbed-turn, climbed-end}
 use Rattle.memory.proofs.climb_install.Statement.{statement}
 use Rattle.memory.proofs.climb_install.Tie as tie
 

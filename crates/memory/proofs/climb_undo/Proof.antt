@@ -7,7 +7,8 @@ use lib.ListN.{length}
 use borrow.Author.Needs.{needs}
 use Rattle.model.specs.Moves.{climbed}
 use Rattle.model.specs.Steps.{undone}
-use Rattle.memory.proofs.LoopLaws.{climbed-there, climbed-turn, climbed-end, entries-lt}
+use Rattle.memory.proofs.FieldBounds.{entries-lt}
+use Rattle.memory.proofs.LoopLaws.{climbed-there, climbed-turn, climbed-end}
 use Rattle.memory.proofs.climb_undo.Statement.{statement}
 use Rattle.memory.proofs.climb_undo.Tie as tie
 

@@ -8,7 +8,7 @@ use borrow.Author.Needs.{needs}
 use Rattle.model.specs.Steps.{raised}
 use Rattle.model.specs.Memory.{nodeWord, hasGoal, frame, wordOf}
 use Rattle.model.specs.declared.Kind.the-variants.{Node2}
-use Rattle.memory.proofs.LoopLaws.{tried-lt}
+use Rattle.memory.proofs.FieldBounds.{tried-lt}
 use Rattle.memory.proofs.raise.Statement.{statement}
 use Rattle.memory.proofs.raise.Tie as tie
 
@@ -25,7 +25,7 @@ tried-requires : tie.Need-tried-requires
 tried-requires c κs = search needs
 
 add-node2 : tie.Need-add-node2
-add-node2 c = omega (arith, c .tried .ensures, tried-lt (nodeWord (c .before .before .before .before .before .before .before .before .before .args .nodes .now) (c .before .before .before .before .before .before .before .before .before .args .node) 2))
+add-node2 c = omega (arith, c .tried .ensures, tried-lt (c .before .before .before .before .before .before .before .before .before .args .nodes .now) (c .before .before .before .before .before .before .before .before .before .args .node))
 
 node2-requires : tie.Need-node2-requires
 node2-requires c κs = search needs

@@ -5,7 +5,8 @@ use Prim.Native.Nat.{ℕ, _+_, _-_}
 use native.Mathlib.Omega.{arith}
 use Rattle.model.specs.Moves.{meeting, commonAncestor}
 use Rattle.model.specs.Memory.{depth}
-use Rattle.moves.proofs.MoveLaws.{depth-lt, meeting-end, meeting-met, meeting-other, meeting-slot}
+use Rattle.memory.proofs.FieldBounds.{depth-lt}
+use Rattle.moves.proofs.MoveLaws.{meeting-end, meeting-met, meeting-other, meeting-slot}
 use Rattle.moves.proofs.common_ancestor.Statement.{statement}
 use Rattle.moves.proofs.common_ancestor.Tie as tie
 

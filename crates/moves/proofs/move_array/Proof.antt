@@ -3,7 +3,8 @@ use mathlib.Core.Path.{_∙_}
 use native.Mathlib.Omega.{arith}
 use borrow.Author.Needs.{needs}
 use Rattle.model.specs.Steps.{undone}
-use Rattle.moves.proofs.MoveLaws.{depth-lt, leg-passed, legs-of}
+use Rattle.memory.proofs.FieldBounds.{depth-lt}
+use Rattle.moves.proofs.MoveLaws.{leg-passed, legs-of}
 use Rattle.moves.proofs.move_array.Statement.{statement}
 use Rattle.moves.proofs.move_array.Tie as tie
 

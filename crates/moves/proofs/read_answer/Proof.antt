@@ -6,7 +6,8 @@ use native.Mathlib.Nat.{add-sub-cancel-left}
 use lib.ListN.{getD}
 use borrow.Author.Needs.{needs}
 use Rattle.model.specs.Fields.{variables}
-use Rattle.moves.proofs.ReadLaws.{variables-lt, answer-of}
+use Rattle.memory.proofs.FieldBounds.{variables-lt}
+use Rattle.moves.proofs.ReadLaws.{answer-of}
 use Rattle.moves.proofs.read_answer.Statement.{statement}
 use Rattle.moves.proofs.read_answer.Tie as tie
 

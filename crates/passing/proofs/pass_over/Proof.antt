@@ -7,8 +7,9 @@ use lib.ListN.{length}
 use borrow.Author.Tests.{not-true, not-false}
 use borrow.Author.Needs.{needs}
 use Rattle.model.specs.Fields.{clauseLength}
+use Rattle.memory.proofs.FieldBounds.{clauseLength-lt}
 use Rattle.passing.specs.Passing.{passOver}
-use Rattle.passing.proofs.PassLaws.{passOver-end, passOver-stop, passOver-turn, clauseLength-lt}
+use Rattle.passing.proofs.PassLaws.{passOver-end, passOver-stop, passOver-turn}
 use Rattle.passing.proofs.pass_over.Statement.{statement}
 use Rattle.passing.proofs.pass_over.Tie as tie
 

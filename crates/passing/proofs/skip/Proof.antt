@@ -5,7 +5,7 @@ use native.Mathlib.Omega.{arith}
 use borrow.Author.Tests.{not-true, not-false}
 use borrow.Author.Needs.{needs}
 use Rattle.model.specs.Fields.{arity, clauseCount}
-use Rattle.passing.proofs.FieldBounds.{base-lt, ownVariables-lt, frame-lt, arity-lt, clauseCount-lt}
+use Rattle.memory.proofs.FieldBounds.{arity-lt, clauseCount-lt, ownVariables-lt, base-lt, frame-lt}
 use Rattle.passing.proofs.SkipLaws.{skipped-not, skipped-written, skipped-over}
 use Rattle.passing.proofs.skip.Statement.{statement}
 use Rattle.passing.proofs.skip.Tie as tie

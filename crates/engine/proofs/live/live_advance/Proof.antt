@@ -1,4 +1,4 @@
--- `engine::live_advance` meets its contract. Assumes nothing.
+-- `engine::live::live_advance` meets its contract. Assumes nothing.
 use mathlib.Core.Bool.{_&&_}
 use mathlib.Core.Path.{sym, ap, _∙_}
 use Prim.Native.Nat.{ℕ}
@@ -8,8 +8,8 @@ use borrow.Author.Needs.{needs}
 use Rattle.model.specs.Fields.{sequential}
 use Rattle.model.specs.Steps.{hasChild}
 use Rattle.engine.proofs.ProgressLaws.{wait-step, full-step}
-use Rattle.engine.proofs.live_advance.Statement.{statement}
-use Rattle.engine.proofs.live_advance.Tie as tie
+use Rattle.engine.proofs.live.live_advance.Statement.{statement}
+use Rattle.engine.proofs.live.live_advance.Tie as tie
 
 add-word-at : tie.Need-add-word-at
 add-word-at c = search needs

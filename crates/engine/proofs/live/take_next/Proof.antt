@@ -1,4 +1,4 @@
--- `engine::take_next` meets its contract. Assumes nothing.
+-- `engine::live::take_next` meets its contract. Assumes nothing.
 use mathlib.Core.List.{List}
 use mathlib.Core.Path.{_≡_, ap, subst, sym, _∙_}
 use Prim.Native.Nat.{ℕ, _<_}
@@ -10,12 +10,12 @@ use Rattle.model.specs.Goals.{clauseWords}
 use Rattle.model.specs.Fields.{arity}
 use Rattle.model.specs.Image.{predicateWord}
 use Rattle.model.specs.Steps.{view, goalOf, predicateOf, takeClause}
-use Rattle.extension.proofs.FieldBounds.{tried-lt}
 use Rattle.goals.proofs.PlaceLaws.{clauseAt-lt}
+use Rattle.memory.proofs.FieldBounds.{tried-lt}
 use Rattle.engine.proofs.PassingLaws.{take-step}
 use Rattle.engine.proofs.ProgressLaws.{untried, place-lt, position-lt, aimed, skip-tries, skip-none}
-use Rattle.engine.proofs.take_next.Statement.{statement}
-use Rattle.engine.proofs.take_next.Tie as tie
+use Rattle.engine.proofs.live.take_next.Statement.{statement}
+use Rattle.engine.proofs.live.take_next.Tie as tie
 
 tried-requires : tie.Need-tried-requires
 tried-requires c κs = search needs

@@ -1,4 +1,4 @@
--- `engine::live_goal` meets its contract. Assumes nothing.
+-- `engine::live::live_goal` meets its contract. Assumes nothing.
 use mathlib.Core.List.{List}
 use mathlib.Core.Path.{sym, ap, ap₂, _∙_}
 use Prim.Native.Nat.{ℕ}
@@ -8,10 +8,10 @@ use borrow.Author.Needs.{needs}
 use Rattle.model.specs.Fields.{goalPredicate, clauseCount}
 use Rattle.model.specs.Image.{predicateWord}
 use Rattle.model.specs.Goals.{clauseWords}
-use Rattle.engine.specs.declared.LiveGoal.the-variants.{Live}
+use Rattle.engine.specs.declared.live.LiveGoal.the-variants.{Live}
 use Rattle.engine.proofs.StepLaws.{liveGoal-none, liveGoal-tried, liveGoal-untried}
-use Rattle.engine.proofs.live_goal.Statement.{statement}
-use Rattle.engine.proofs.live_goal.Tie as tie
+use Rattle.engine.proofs.live.live_goal.Statement.{statement}
+use Rattle.engine.proofs.live.live_goal.Tie as tie
 
 has-goal-requires : tie.Need-has-goal-requires
 has-goal-requires c κs = search needs

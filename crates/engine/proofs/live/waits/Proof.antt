@@ -1,10 +1,10 @@
--- `engine::waits` meets its contract. Assumes nothing.
+-- `engine::live::waits` meets its contract. Assumes nothing.
 use native.Mathlib.Omega.{arith}
 use borrow.Author.Needs.{needs}
 use borrow.Author.Tests.{eq-eqb, ne-eqb}
 use Rattle.model.specs.Fields.{sequential}
-use Rattle.engine.proofs.waits.Statement.{statement}
-use Rattle.engine.proofs.waits.Tie as tie
+use Rattle.engine.proofs.live.waits.Statement.{statement}
+use Rattle.engine.proofs.live.waits.Tie as tie
 
 sequential-requires : tie.Need-sequential-requires
 sequential-requires c κs = search needs
