@@ -10,7 +10,7 @@ use lib.ListN.{length, getD, set, drop, length-append, drop-of-length-le}
 use lib.Seq.{drop-cons}
 use native.Mathlib.Numerals.{add-one}
 use borrow.Author.Tests.{lt-ltb, le-ltb, ltb-true, ltb-false}
-use Rattle.lines.specs.Lines.{digits, decimal, written}
+use Rattle.desk_model.specs.Lines.{digits, decimal, written}
 
 -- as many digits as there are, however many are allowed
 digits-same : (a b n : ℕ) → n ≤ a → n ≤ b → digits a n ≡ digits b n

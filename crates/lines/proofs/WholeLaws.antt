@@ -12,9 +12,9 @@ use borrow.Author.Tests.{eq-eqb, ne-eqb, le-leb, lt-leb}
 use Rattle.model.specs.declared.Kind.the-variants.{Con, Var}
 use Rattle.model.specs.Fields.{widthsOf, op, constant, variableNumber}
 use Rattle.words.specs.FieldLaws.{field-lt}
-use Rattle.lines.specs.declared.Ending.{Ending}
-use Rattle.lines.specs.declared.Ending.the-variants.{Finished, Full, Spent}
-use Rattle.lines.specs.Lines.{decimal, newline, spaced, valueText, valueTexts, answerLine, endingName, endingLine, refusedName, refusedLine, written, wrote, lineIn, roomy, fewValues}
+use Rattle.desk_model.specs.declared.Ending.{Ending}
+use Rattle.desk_model.specs.declared.Ending.the-variants.{Finished, Full, Spent}
+use Rattle.desk_model.specs.Lines.{decimal, newline, spaced, valueText, valueTexts, answerLine, endingName, endingLine, refusedName, refusedLine, written, wrote, lineIn, roomy, fewValues}
 use Rattle.lines.proofs.LineLaws.{decimal-short, decimal-long, written-append, written-front, Stored, stored-then, stored-one}
 
 pub spaced-of : (at n : ℕ) (room between : List ℕ) (end : ℕ) (after : List ℕ) → between ≡ set room at 32 → Stored (at + 1) (decimal n) between end after

@@ -1,17 +1,11 @@
 // The lines of the desk program's listing: document 01, "The desk program". Each public function writes one line at the front of a room of at least 1,024 bytes,
 // leaves the bytes past it, and answers how long the line is; in less room it writes nothing and answers 0.
+use desk_model::Ending;
 ghost use mathlib.Core.Path.{_≡_};
 ghost use mathlib.Core.Bool.{_&&_};
 ghost use Prim.Native.Nat.{_+_, _*_, _≤_, _<_};
 ghost use lib.ListN.{length, set};
-ghost use Rattle.lines.specs.Lines.{decimal, spaced, valueText, valueTexts, answerLine, endingName, endingLine, refusedLine, written, wrote, lineIn, roomy, fewValues};
-
-// How a search ends.
-pub enum Ending {
-    Finished,
-    Full,
-    Spent,
-}
+ghost use Rattle.desk_model.specs.Lines.{decimal, spaced, valueText, valueTexts, answerLine, endingName, endingLine, refusedLine, written, wrote, lineIn, roomy, fewValues};
 
 fn put(line: &mut [u8], at: usize, byte: u8)
     ensures { λ _. ⌜ now (line .exit) ≡ set (now (line .entry)) at byte ⌝ }

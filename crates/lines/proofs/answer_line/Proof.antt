@@ -2,7 +2,7 @@
 use mathlib.Core.Bool.{_&&_}
 use Rattle.lines.proofs.WholeLaws.{line-none, line-whole, answer-no-room, answer-too-many, answer-fits, answer-short, answer-of}
 use Rattle.lines.proofs.LineLaws.{decimal-short}
-use Rattle.lines.specs.Lines.{answerLine, roomy, fewValues}
+use Rattle.desk_model.specs.Lines.{answerLine, roomy, fewValues}
 use native.Mathlib.Omega.{arith}
 use borrow.Author.Needs.{needs}
 use Rattle.lines.proofs.answer_line.Statement.{statement}

@@ -1,6 +1,6 @@
 -- `lines::ending_line` meets its contract. Assumes nothing.
 use Rattle.lines.proofs.WholeLaws.{is-roomy, not-roomy, line-none, line-whole, name-short, spaced-short, ending-short, ending-of}
-use Rattle.lines.specs.Lines.{endingLine, roomy}
+use Rattle.desk_model.specs.Lines.{endingLine, roomy}
 use native.Mathlib.Omega.{arith}
 use borrow.Author.Needs.{needs}
 use Rattle.lines.proofs.ending_line.Statement.{statement}

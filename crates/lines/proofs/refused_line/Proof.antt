@@ -1,6 +1,6 @@
 -- `lines::refused_line` meets its contract. Assumes nothing.
 use Rattle.lines.proofs.WholeLaws.{is-roomy, not-roomy, line-none, line-whole, spaced-short, refused-short, refused-of}
-use Rattle.lines.specs.Lines.{refusedLine, refusedName, roomy}
+use Rattle.desk_model.specs.Lines.{refusedLine, refusedName, roomy}
 use native.Mathlib.Omega.{arith}
 use borrow.Author.Needs.{needs}
 use Rattle.lines.proofs.refused_line.Statement.{statement}

@@ -3,7 +3,7 @@ use mathlib.Core.Path.{_≡_, refl, sym, _∙_}
 use Prim.Native.Nat.{_-_, _≤_}
 use native.Mathlib.Omega.{arith}
 use lib.ListN.{length, drop}
-use Rattle.lines.specs.Lines.{written}
+use Rattle.desk_model.specs.Lines.{written}
 use Rattle.lines.proofs.LineLaws.{written-turn, written-none}
 use borrow.Author.Needs.{needs}
 use Rattle.lines.proofs.text.Statement.{statement}

@@ -2,7 +2,7 @@
 use mathlib.Core.Path.{_≡_, refl, _∙_}
 use Prim.Native.Nat.{_+_, _-_, _*_, _≤_}
 use lib.ListN.{length, getD, drop}
-use Rattle.lines.specs.Lines.{written, valueTexts}
+use Rattle.desk_model.specs.Lines.{written, valueTexts}
 use Rattle.lines.proofs.WholeLaws.{values-turn, values-end, value-short}
 use native.Mathlib.Omega.{arith}
 use borrow.Author.Needs.{needs}

@@ -7,8 +7,8 @@ use Prim.Native.Nat.{ℕ, zero, suc, _+_, _/_, _%_}
 use lib.Dec.{eqb, ltb, leb}
 use lib.ListN.{length, set, drop}
 use Rattle.model.specs.Fields.{op, constant, variableNumber}
-use Rattle.lines.specs.declared.Ending.{Ending}
-use Rattle.lines.specs.declared.Ending.the-variants.{Finished, Full, Spent}
+use Rattle.desk_model.specs.declared.Ending.{Ending}
+use Rattle.desk_model.specs.declared.Ending.the-variants.{Finished, Full, Spent}
 
 -- a number's digits, most significant first, at most so many before the last
 unfoldable pub digits : ℕ → ℕ → List ℕ
