@@ -49,6 +49,21 @@ queryOf words size = take size (drop 1 words)
 abbrev pub imageOf : List ℕ → ℕ → List ℕ
 imageOf words size = drop (1 + size) words
 
+-- a file's parts, and its words laid out at the front of a room; in a room of less than 1,297 words, the most that a file has, none is laid out
+pub record Laid : Type 0 where
+  pub parts : FileParts
+  pub words : List ℕ
+
+abbrev pub laid : FileParts → List ℕ → Laid
+laid parts words = record { parts = parts; words = words }
+
+abbrev pub laidBy : FileParts → List ℕ → List ℕ → Laid
+laidBy Unfit all words = laid Unfit words
+laidBy (Fit size count) all words = laid (Fit size count) (all ++ drop count words)
+
+unfoldable pub layCall : List ℕ → List ℕ → Laid
+layCall bytes words = cond (leb 1297 (length words)) (laidBy (fileParts bytes) (wordsOfBytes bytes) words) (laid Unfit words)
+
 -- what a run of worker 0 stops at; a lone worker never sees Wait, and no run stops at what else is here said to be spent
 unfoldable pub stopOf : Outcome → Stop
 stopOf Tried = Ended Spent
