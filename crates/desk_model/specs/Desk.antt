@@ -140,19 +140,21 @@ unfoldable pub begunBy : Verdict → ℕ → ℕ → List ℕ → Memory → Lis
 begunBy (Refused refusal at) size count words m room = refusing (refusalNumber refusal) at words m room
 begunBy Legal size count words m room = begun (Ready size count) words m room
 
--- loads what stands at the front of a room of words; a memory of the wrong lengths is refused as 20
-unfoldable pub beginParts : ℕ → ℕ → List ℕ → List ℕ → Memory → List ℕ → Begun
-beginParts size count all words m room =
-    let l = loadCall (imageOf all size) (queryOf all size) m in
-    begunBy (l .answer) size count (all ++ drop count words) (l .after) room
+-- the file whose words stand at the front of a room is loaded; a memory of the wrong lengths is refused as 20
+unfoldable pub begunFrom : ℕ → ℕ → List ℕ → Memory → List ℕ → Begun
+begunFrom size count words m room =
+    let l = loadCall (imageOf (take count words) size) (queryOf words size) m in
+    begunBy (l .answer) size count words (l .after) room
 
-unfoldable pub begin : FileParts → List ℕ → List ℕ → Memory → List ℕ → Begun
-begin Unfit all words m room = refusing 28 0 words m room
-begin (Fit size count) all words m room = beginParts size count all words m room
+unfoldable pub begunAs : FileParts → List ℕ → Memory → List ℕ → Begun
+begunAs Unfit words m room = refusing 28 0 words m room
+begunAs (Fit size count) words m room = begunFrom size count words m room
 
 unfoldable pub openCall : List ℕ → List ℕ → Memory → List ℕ → Begun
 openCall bytes words m room =
-    cond (leb 1297 (length words) && roomy room) (begin (fileParts bytes) (wordsOfBytes bytes) words m room) (begun NoRoomToOpen words m room)
+    cond (leb 1297 (length words) && roomy room)
+    (let l = layCall bytes words in begunAs (l .parts) (l .words) m room)
+    (begun NoRoomToOpen words m room)
 
 -- what the next line's call does: worker 0 runs to its next stop, whose line is written at the front of a room
 pub record Told : Type 0 where
@@ -166,6 +168,12 @@ told answer after line = record { answer = answer; after = after; line = line }
 abbrev pub lineAnswer : Stop → ℕ → ℕ → Line
 lineAnswer Answer size steps = More size steps
 lineAnswer (Ended ending) size steps = Last size
+
+-- how long the line is that was written
+abbrev pub lineSize : Line → ℕ
+lineSize NoRoom = 0
+lineSize (More size steps) = size
+lineSize (Last size) = size
 
 -- a line at the front of its room
 abbrev pub tellLine : Advanced → List ℕ → List ℕ → Told

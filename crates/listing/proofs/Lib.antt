@@ -1,1 +1,3 @@
 pub mod StopLaws
+pub mod TellLaws
+pub mod OpenLaws
