@@ -1,13 +1,13 @@
 -- The words of a file laid out one by one, and what a file's parts tell. Document 01, "The desk program". Assumes nothing.
 use mathlib.Core.Path.{_≡_, refl, sym, ap, ap₂, _∙_}
 use mathlib.Core.Bool.{Bool, true, false, cond}
-use mathlib.Core.List.{List, [], _∷_, _++_}
-use Prim.Native.Nat.{ℕ, suc, _+_, _-_, _*_, _/_, _%_, _≤_, _<_}
+use mathlib.Core.List.{List, [], _++_}
+use Prim.Native.Nat.{ℕ, _+_, _-_, _/_, _%_, _≤_, _<_}
 use native.Mathlib.Omega.{arith}
 use lib.Dec.{eqb, leb}
 use lib.ListN.{length, set, take, drop, take-append-drop}
 use lib.Seq.{drop-set-lt, drop-drop}
-use borrow.Author.Tests.{eq-eqb, ne-eqb, le-leb, lt-leb, eqb-true, leb-true}
+use borrow.Author.Tests.{eq-eqb, ne-eqb, le-leb, lt-leb, leb-true}
 use Rattle.model.specs.Bytes.{wordOfBytes, wordsFrom, wordsOfBytes}
 use Rattle.desk_model.specs.declared.FileParts.{FileParts}
 use Rattle.desk_model.specs.declared.FileParts.the-variants.{Unfit, Fit}

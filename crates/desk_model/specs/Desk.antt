@@ -1,8 +1,8 @@
 -- The desk program, from the bytes of its file to the bytes of its listing: document 01, "The desk program". The lines themselves stand in `Lines`.
 -- Where the page is silent: an unfit file comes before all else, then the image is judged, then the query; step 65,535 may still be an answer or the end of
 -- the search, and `spent` comes at once after it otherwise, even where the next step would be Full. Assumes nothing.
-use mathlib.Core.Bool.{Bool, true, false, cond, _&&_}
-use mathlib.Core.List.{List, [], _∷_, _++_}
+use mathlib.Core.Bool.{cond, _&&_}
+use mathlib.Core.List.{List, [], _++_}
 use Prim.Native.Nat.{ℕ, zero, suc, _+_, _-_, _/_, _%_}
 use lib.Dec.{eqb, leb}
 use lib.ListN.{length, take, drop}
@@ -16,8 +16,7 @@ use Rattle.model.specs.Image.{checkQuery}
 use Rattle.model.specs.Memory.{Memory}
 use Rattle.model.specs.Steps.{viewOf, withView, run}
 use Rattle.model.specs.Moves.{loaded, answer}
-use Rattle.model.specs.Calls.{Loaded, loadCall}
-use Rattle.desk_model.specs.declared.Ending.{Ending}
+use Rattle.model.specs.Calls.{loadCall}
 use Rattle.desk_model.specs.declared.Ending.the-variants.{Finished, Full, Spent}
 use Rattle.desk_model.specs.declared.Stop.{Stop}
 use Rattle.desk_model.specs.declared.Stop.the-variants.{Answer, Ended}

@@ -1,5 +1,5 @@
 -- Document 01, "The desk program": the page's file and its listing, and files that are refused; proved together, as one statement over a list. Assumes nothing.
-use mathlib.Core.Bool.{Bool, true, false, _&&_}
+use mathlib.Core.Bool.{Bool, true, false}
 use mathlib.Core.List.{List, [], _∷_}
 use Prim.Native.Nat.{ℕ}
 use lib.Dec.{T}

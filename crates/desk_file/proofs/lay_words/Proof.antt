@@ -6,7 +6,6 @@ use Rattle.model.specs.Bytes.{wordsFrom}
 use Rattle.host.proofs.BytesLaws.{wordsFrom-store}
 use Rattle.desk_file.proofs.FileLaws.{drop-store, laid-words}
 use native.Mathlib.Omega.{arith}
-use borrow.Author.Needs.{needs}
 use Rattle.desk_file.proofs.lay_words.Statement.{statement}
 use Rattle.desk_file.proofs.lay_words.Tie as tie
 

@@ -1,6 +1,5 @@
 -- `lines::ending_name` meets its contract. Assumes nothing.
 use Rattle.desk_model.specs.Lines.{endingName}
-use native.Mathlib.Omega.{arith}
 use borrow.Author.Needs.{needs}
 use Rattle.lines.proofs.ending_name.Statement.{statement}
 use Rattle.lines.proofs.ending_name.Tie as tie

@@ -1,6 +1,5 @@
 -- `lines::spaced` meets its contract. Assumes nothing.
 use Rattle.lines.proofs.WholeLaws.{spaced-of}
-use native.Mathlib.Omega.{arith}
 use borrow.Author.Needs.{needs}
 use Rattle.lines.proofs.spaced.Statement.{statement}
 use Rattle.lines.proofs.spaced.Tie as tie

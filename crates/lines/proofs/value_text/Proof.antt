@@ -1,6 +1,5 @@
 -- `lines::value_text` meets its contract. Assumes nothing.
 use Rattle.lines.proofs.WholeLaws.{value-constant, value-variable}
-use native.Mathlib.Omega.{arith}
 use borrow.Author.Needs.{needs}
 use Rattle.lines.proofs.value_text.Statement.{statement}
 use Rattle.lines.proofs.value_text.Tie as tie

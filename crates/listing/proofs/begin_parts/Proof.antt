@@ -2,7 +2,6 @@
 use Rattle.model.specs.Memory.{memory}
 use Rattle.listing.specs.Fits.{Fits}
 use Rattle.listing.proofs.OpenLaws.{begun-refused, begun-ready}
-use native.Mathlib.Omega.{arith}
 use borrow.Author.Needs.{needs}
 use Rattle.listing.proofs.begin_parts.Statement.{statement}
 use Rattle.listing.proofs.begin_parts.Tie as tie

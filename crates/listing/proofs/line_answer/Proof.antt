@@ -2,7 +2,6 @@
 use mathlib.Core.Path.{sym, ap}
 use Rattle.desk_model.specs.declared.Stop.{Stop}
 use Rattle.desk_model.specs.Desk.{lineAnswer}
-use native.Mathlib.Omega.{arith}
 use borrow.Author.Needs.{needs}
 use Rattle.listing.proofs.line_answer.Statement.{statement}
 use Rattle.listing.proofs.line_answer.Tie as tie

@@ -1,7 +1,6 @@
 -- `listing::stop_line` meets its contract. Assumes nothing.
 use Rattle.model.specs.Memory.{memory}
 use Rattle.listing.proofs.StopLaws.{stop-answer, stop-ended}
-use native.Mathlib.Omega.{arith}
 use borrow.Author.Needs.{needs}
 use Rattle.listing.proofs.stop_line.Statement.{statement}
 use Rattle.listing.proofs.stop_line.Tie as tie

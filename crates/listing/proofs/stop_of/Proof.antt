@@ -1,7 +1,6 @@
 -- `listing::stop_of` meets its contract. Assumes nothing.
 use mathlib.Core.Path.{sym, ap}
 use Rattle.desk_model.specs.Desk.{stopOf}
-use native.Mathlib.Omega.{arith}
 use borrow.Author.Needs.{needs}
 use Rattle.listing.proofs.stop_of.Statement.{statement}
 use Rattle.listing.proofs.stop_of.Tie as tie
