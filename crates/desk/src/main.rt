@@ -1,5 +1,7 @@
 // The desk program of document 01: it reads a file of words, which its first argument names, or else standard input, and prints the listing of its search.
 // What it prints is said by `listing` of `desk_model`; here bytes are only read, handed on and written.
+mod help;
+
 use desk_model::Line;
 use desk_model::Opened;
 use libc::STDOUT_FILENO;
@@ -25,34 +27,6 @@ fn file_room() -> [u8; 8192]
 
 fn say(text: &[u8]) {
     io::write_all(STDOUT_FILENO, text);
-}
-
-fn help() {
-    say(b"desk [FILE]   searches by the rules in FILE, or in standard input, with one worker.\n");
-    say(b"It reads words of 32 bits, most significant byte first: the query's length,\n");
-    say(b"the query (at most 272 words), the rule image (at most 1,024 words).\n");
-    say(b"Each answer is a line: the steps so far, then for each variable of the query\n");
-    say(b"cN, the constant N, or vN, an unbound variable; equal N, equal variables.\n");
-    say(b"The last line is the status: finished N, full N (all 64 slots used), spent N\n");
-    say(b"(65,535 steps taken) or refused R P (28 0: not such a file, or unreadable;\n");
-    say(b"else fault R at word P of the image, or of the query where R is above 32).\n");
-    say(b"The exit status is always 0, so a script tests the last line:\n");
-    say(b"  desk FILE | tail -n 1 | grep -q '^finished '\n");
-}
-
-fn is_help(path: &[u8]) -> bool {
-    let word = b"--help";
-    if path.len() != word.len() {
-        return false;
-    }
-    let mut i: usize = 0;
-    while i < path.len() {
-        if path[i] != word[i] {
-            return false;
-        }
-        i += 1;
-    }
-    true
 }
 
 // A file that cannot be read counts as an empty one.
@@ -284,8 +258,8 @@ fn main() {
     let mut path = io::buffer();
     let length = os::arg(1, &mut path);
     let error = os::errno();
-    if is_help(&path[..length]) {
-        help();
+    if help::is_asked(&path[..length]) {
+        help::print();
         return;
     }
     let mut bytes = file_room();

@@ -1,11 +1,11 @@
--- `desk::is_help` meets its contract. Assumes nothing.
+-- `desk::help::is_asked` meets its contract. Assumes nothing.
 use mathlib.Core.Path.{_≡_}
 use Prim.Native.Nat.{_-_, _≤_}
 use lib.ListN.{length}
 use native.Mathlib.Omega.{arith}
 use borrow.Author.Needs.{needs}
-use Rattle.desk.proofs.is_help.Statement.{statement}
-use Rattle.desk.proofs.is_help.Tie as tie
+use Rattle.desk.proofs.help.is_asked.Statement.{statement}
+use Rattle.desk.proofs.help.is_asked.Tie as tie
 
 abbrev Inv-loop : tie.InvT-loop
 Inv-loop path word i₀ i = (i ≤ length path) × (length path ≡ 6)
@@ -40,8 +40,8 @@ loop-again c = (omega arith, omega arith)
 returns-3 : tie.Need-returns-3 Inv-loop μ-loop
 returns-3 c = search needs
 
-pub is-help-spec : {M : Type 1} → statement M
-is-help-spec =
+pub is-asked-spec : {M : Type 1} → statement M
+is-asked-spec =
     tie.close
     (tie.spec
     Inv-loop
