@@ -10,7 +10,7 @@ enum { LONGEST = 131071, PREDICATES = 20, ROUNDS = 15, SHARE_MS = 20 };
 static uint32_t var(uint32_t number) { return 1u << 28 | number; }
 
 /* p(X, Y) :- p(Y, 7), q(Y, Z).  Nine words; predicate 19 has arity 0 and pads the image to its length. */
-static void fill(void (*put)(size_t, uint32_t), size_t words)
+static inline void fill(void (*put)(size_t, uint32_t), size_t words)
 {
     size_t clauses = (words - 1 - PREDICATES) / 9, padding = (words - 1 - PREDICATES) % 9, at = 1 + PREDICATES;
     put(0, 1u << 28 | PREDICATES << 18 | (uint32_t)words);
