@@ -13,7 +13,8 @@ use Rattle.model.specs.Fields.{variables}
 use Rattle.model.specs.Memory.{Memory, memory, arrayOf}
 use Rattle.model.specs.Steps.{View, view, withView, step, Ran, ran, goOn, runFrom, run}
 use Rattle.model.specs.Moves.{answer}
-use Rattle.moves.proofs.ReadLaws.{answer-length, variables-lt}
+use Rattle.memory.proofs.FieldBounds.{variables-lt}
+use Rattle.moves.proofs.ReadLaws.{answer-length}
 use Rattle.lines.proofs.WholeLaws.{answer-fits, is-roomy}
 use Rattle.desk_model.specs.declared.Ending.{Ending}
 use Rattle.desk_model.specs.declared.Stop.{Stop}

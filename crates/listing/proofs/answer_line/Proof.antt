@@ -5,7 +5,7 @@ use Prim.Native.Nat.{ℕ}
 use lib.ListN.{getD, length-replicate}
 use lib.Seq.{length-take-le}
 use Rattle.model.specs.Memory.{memory}
-use Rattle.moves.proofs.ReadLaws.{variables-lt}
+use Rattle.memory.proofs.FieldBounds.{variables-lt}
 use Rattle.listing.proofs.StopLaws.{read-few, answer-told}
 use native.Mathlib.Omega.{arith}
 use borrow.Author.Needs.{needs}
