@@ -4,11 +4,12 @@ use mathlib.Core.Bool.{Bool, true, false}
 use mathlib.Core.List.{List}
 use Prim.Native.Nat.{ℕ, zero, suc, _+_, _-_, _*_, _≤_, _<_}
 use native.Mathlib.Omega.{arith}
+use native.Mathlib.Numerals.{add-one}
 use lib.Dec.{eqb}
 use lib.ListN.{getD}
 use borrow.Author.Tests.{eq-eqb, ne-eqb, lt-ltb, le-ltb}
 use Rattle.model.specs.declared.FirstGoal.the-variants.{NoGoal, Goal}
-use Rattle.model.specs.Fields.{op, arity, clauseLength, firstClause, goalPredicate}
+use Rattle.model.specs.Fields.{op, clauseLength, firstClause, goalPredicate}
 use Rattle.model.specs.Memory.{parent, clausePosition, frame, goalIndex}
 use Rattle.model.specs.Image.{predicateWord}
 use Rattle.model.specs.Decoding.{goalNext, goalFrom, clauseNext, clauseFrom, clauseAt}
@@ -118,3 +119,9 @@ pub goalOf-lt : (image query nodes : List ℕ) (node : ℕ) → goalOf image que
 goalOf-lt image query nodes node =
     let slot = frame nodes node in
     omega (arith, goalPlace-le image (clauseWords image query nodes slot) (clausePosition nodes slot) (goalIndex nodes node), clausePosition-lt nodes slot, goalIndex-lt nodes node)
+
+-- the clause after the last of so many
+pub clauseFrom-next : (image : List ℕ) (clauses at : ℕ) → clauseFrom image at (clauses + 1) ≡ clauseFrom image at clauses + clauseLength (getD image (clauseFrom image at clauses) 0)
+unfolding clauseFrom clauseNext
+clauseFrom-next image zero at = refl
+clauseFrom-next image (suc clauses) at = rw add-one (simp add-one at (clauseFrom-next image clauses (at + clauseLength (getD image at 0))))

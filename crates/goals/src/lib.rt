@@ -2,10 +2,10 @@
 use model::FirstGoal;
 ghost use mathlib.Core.Path.{_≡_};
 ghost use Prim.Native.Nat.{_+_, _<_};
-ghost use lib.ListN.{getD};
-ghost use Rattle.model.specs.Decoding.{goalNext, goalFrom, clauseNext, clauseFrom, clauseAt};
+ghost use Rattle.model.specs.Decoding.{goalNext, goalFrom, clauseFrom, clauseAt};
 ghost use Rattle.model.specs.Goals.{clauseWords, pastHead, goalPlace, goalsOf, nextGoal, childGoal};
 ghost use Rattle.model.specs.Steps.{goalOf, predicateOf};
+ghost use Rattle.goals.specs.Number.{goalNumber};
 
 // The words that hold a slot's clause: the query's for the root.
 pub fn clause_words<'a>(image: &'a [u32], query: &'a [u32], nodes: &[u32], slot: u32) -> &'a [u32]
@@ -95,8 +95,41 @@ pub fn goals_of<'a>(image: &'a [u32], query: &'a [u32], nodes: &[u32], slot: u32
     words::goal_count(words::word_at(clause_words(image, query, nodes, slot), at))
 }
 
-// The goal behind the one at an index of a slot's clause: climbing from frame to parent frame, depth falling.
-pub fn next_goal<'a>(
+// The goal behind the one at an index of a slot's clause, as one number: 0 where there is none, else one more than its index and 32 times its slot.
+// It climbs from frame to parent frame, depth falling. Lent by reference and answering a number, it compiles to a loop.
+fn climb<'a>(
+    image: &&'a [u32],
+    query: &&'a [u32],
+    nodes: &&[u32],
+    depth: u32,
+    slot: u32,
+    index: u32,
+) -> u64
+    requires { ⌜ index < 16 ⌝ }
+    ensures { λ r. ⌜ r ≡ goalNumber (nextGoal depth (now (now (image .entry))) (now (now (query .entry))) (now (now (nodes .entry))) slot index) ⌝ }
+{
+    if index + 1 < goals_of(*image, *query, *nodes, slot) {
+        return 32 * (slot as u64) + (index as u64) + 2;
+    }
+    if depth == 0 {
+        return 0;
+    }
+    if slot == 0 {
+        return 0;
+    }
+    let above = memory::parent(*nodes, slot);
+    climb(
+        image,
+        query,
+        nodes,
+        depth - 1,
+        memory::frame(*nodes, above),
+        memory::goal_index(*nodes, above),
+    )
+}
+
+// The goal behind the one at an index of a slot's clause, read from the number that the climb answers.
+fn next_goal<'a>(
     image: &'a [u32],
     query: &'a [u32],
     nodes: &[u32],
@@ -107,24 +140,14 @@ pub fn next_goal<'a>(
     requires { ⌜ index < 16 ⌝ }
     ensures { λ r. ⌜ r ≡ nextGoal depth (now (image .entry)) (now (query .entry)) (now (nodes .entry)) slot index ⌝ }
 {
-    if index + 1 < goals_of(image, query, nodes, slot) {
-        return FirstGoal::Goal(slot, index + 1);
-    }
-    if depth == 0 {
+    let found = climb(&image, &query, &nodes, depth, slot, index);
+    if found == 0 {
         return FirstGoal::NoGoal;
     }
-    if slot == 0 {
-        return FirstGoal::NoGoal;
-    }
-    let above = memory::parent(nodes, slot);
-    next_goal(
-        image,
-        query,
-        nodes,
-        depth - 1,
-        memory::frame(nodes, above),
-        memory::goal_index(nodes, above),
-    )
+    let place = found - 1;
+    let holder = (place / 32) as u32;
+    let which = (place % 32) as u32;
+    FirstGoal::Goal(holder, which)
 }
 
 // The first goal of a child with so many goals of its own, of a node whose first goal stands at an index of a slot's clause.
