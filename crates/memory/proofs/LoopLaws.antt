@@ -5,12 +5,14 @@ use mathlib.Core.List.{List}
 use Prim.Native.Nat.{ℕ, zero, suc, _+_, _-_, _*_, _≤_, _<_}
 use native.Mathlib.Nat.{add-zero}
 use native.Mathlib.Omega.{arith}
-use lib.Dec.{eqb}
-use lib.ListN.{getD, set}
-use borrow.Author.Tests.{eq-eqb, ne-eqb}
+use lib.Dec.{eqb, ltb}
+use lib.ListN.{length, getD, set, List·getD-eq-default}
+use lib.Seq.{getD-set-same, getD-set-other}
+use borrow.Author.Tests.{eq-eqb, ne-eqb, eqb-true, eqb-false, ltb-true, ltb-false}
 use Rattle.model.specs.Memory.{cleared, vnoWord, used, parent, entries}
 use Rattle.model.specs.Steps.{childFrom, anotherFrom, freeFrom, undone, laid}
 use Rattle.model.specs.Moves.{installed, climbed, leg}
+use Rattle.memory.specs.Wiped.{Wiped}
 
 pub cleared-turn : (left at : ℕ) (words : List ℕ) → 0 < left → cleared (left - 1) (at + 1) (set words at 0) ≡ cleared left at words
 unfolding cleared
@@ -21,6 +23,21 @@ pub cleared-end : (left at : ℕ) (words : List ℕ) → left ≤ 0 → words �
 unfolding cleared
 cleared-end zero at words h = refl
 cleared-end (suc left) at words h = absurd (omega arith)
+
+-- words set to 0 from the first on
+pub wiped-turn : (words : List ℕ) (i : ℕ) → i < length words → ((at : ℕ) → at < i → getD words at 0 ≡ 0) → (at : ℕ) → at < i + 1 → getD (set words i 0) at 0 ≡ 0
+wiped-turn words i fits none at h = go (eqb at i) refl
+  where
+    go : (b : Bool) → eqb at i ≡ b → getD (set words i 0) at 0 ≡ 0
+    go true q = let e = eqb-true at i q in ap (λ (n : ℕ). getD (set words i 0) n 0) e ∙ getD-set-same words i 0 0 fits
+    go false q = let ne = eqb-false at i q in getD-set-other words i at 0 0 ne ∙ none at (omega arith)
+
+pub wiped-end : (words : List ℕ) (i : ℕ) → length words ≤ i → ((at : ℕ) → at < i → getD words at 0 ≡ 0) → Wiped words
+wiped-end words i all none at = go (ltb at i) refl
+  where
+    go : (b : Bool) → ltb at i ≡ b → getD words at 0 ≡ 0
+    go true q = none at (ltb-true at i q)
+    go false q = List·getD-eq-default words 0 (omega (arith, ltb-false at i q))
 
 pub laid-turn : (left at number : ℕ) (cells : List ℕ) → 0 < left → laid (left - 1) (at + 1) (number + 1) (set cells at (vnoWord number)) ≡ laid left at number cells
 unfolding laid

@@ -3,14 +3,15 @@ use model::Kind;
 ghost use mathlib.Core.Path.{_≡_};
 ghost use mathlib.Core.List.{[], _∷_};
 ghost use Prim.Native.Nat.{_+_, _*_, _≤_, _<_};
-ghost use lib.ListN.{length, getD, set};
+ghost use lib.ListN.{length, getD};
 ghost use mathlib.Core.Bool.{_&&_, not};
 ghost use lib.Dec.{eqb};
 ghost use Rattle.model.specs.declared.Kind.the-variants.{Node0, Node1, Node2, Value};
 ghost use Rattle.model.specs.Fields.{widthsOf, field};
-ghost use Rattle.model.specs.Memory.{nodeWord, used, parent, depth, entries, ownVariables, base, clausePosition, hasGoal, frame, goalIndex, tried, wordOf, vnoWord, refWord, conWord, cellOf, cleared};
+ghost use Rattle.model.specs.Memory.{nodeWord, used, parent, depth, entries, ownVariables, base, clausePosition, hasGoal, frame, goalIndex, tried, wordOf, cleared};
 ghost use Rattle.model.specs.Steps.{childFrom, anotherFrom, freeFrom, undone, laid, raised};
 ghost use Rattle.model.specs.Moves.{installed, climbed, leg};
+ghost use Rattle.memory.specs.Wiped.{Wiped};
 
 // A field of word `part` of a slot's node.
 pub fn node_field(nodes: &[u32], slot: u32, part: usize, kind: Kind, i: usize) -> u32
@@ -153,6 +154,17 @@ fn clear_past(words: &mut [u32], start: usize, count: u32)
         words::put(words, at, 0);
         at += 1;
         left -= 1;
+    }
+}
+
+// Every word is set to 0, whatever stood there.
+pub fn wipe(words: &mut [u32])
+    ensures { λ _. ⌜ Wiped (now (words .exit)) ⌝ }
+{
+    let mut at: usize = 0;
+    while at < words.len() {
+        words[at] = 0;
+        at += 1;
     }
 }
 
