@@ -1,0 +1,2 @@
+pub mod RecallLaws
+pub mod KeyLaws
