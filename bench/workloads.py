@@ -1,4 +1,4 @@
-"""The four searches that bench/search measures: their rules and queries, as words and as Prolog text, and the steps that document 01 counts.
+"""The six searches that bench/search measures: their rules and queries, as words and as Prolog text, and the steps that document 01 counts.
 
 A clause is (head, goals), an atom (name, arguments); an argument that is a number is a constant, one that is a string a variable.
 """
@@ -38,7 +38,18 @@ def answers():
     return rules, [('pick', list('ABCD'))]
 
 
-WORKLOADS = {'w1 join': join(), 'w2 chain': chain(), 'w3 table': table(), 'w4 answers': answers()}
+def row():
+    """A row of 450 facts, all of which match: the worker comes back to the same node before each."""
+    return [(('r', [i]), []) for i in range(450)], [('r', ['X'])]
+
+
+def heads():
+    """A row of 150 heads with a variable behind a constant, asked 60 times for the last: all but one fail, and not one may be passed over."""
+    rules = [(('k', [i]), []) for i in range(60)] + [(('h', [i, 'X']), []) for i in range(150)]
+    return rules, [('k', ['X']), ('h', [149, 'Y'])]
+
+
+WORKLOADS = {'w1 join': join(), 'w2 chain': chain(), 'w3 table': table(), 'w4 answers': answers(), 'w5 row': row(), 'w6 heads': heads()}
 
 
 def key(atom):

@@ -1,6 +1,2 @@
-pub mod PassingLaws
-pub mod ProgressLaws
-pub mod RaiseLaws
-pub mod RuleLaws
 pub mod RunLaws
-pub mod StepLaws
+pub mod StopLaws

@@ -7,11 +7,11 @@ use native.Mathlib.Nat.{add-zero, sub-zero}
 use Rattle.model.specs.declared.Outcome.{Outcome}
 use Rattle.model.specs.declared.Outcome.the-variants.{Tried}
 use Rattle.model.specs.Steps.{View, stepped, step, runFrom}
-use Rattle.engine.specs.declared.Progress.{Progress}
-use Rattle.engine.specs.declared.Progress.the-variants.{Passed, Did}
-use Rattle.engine.specs.Progress.{Tries, Progressed}
+use Rattle.turns.specs.declared.Progress.{Progress}
+use Rattle.turns.specs.declared.Progress.the-variants.{Passed, Did}
+use Rattle.turns.specs.Progress.{Tries, Progressed}
 use Rattle.engine.specs.Runs.{stops}
-use Rattle.engine.proofs.StepLaws.{runFrom-more}
+use Rattle.engine.proofs.StopLaws.{runFrom-more}
 
 -- so many steps that each say Tried are the first of a run
 tries-run : (k left count : ℕ) (image query : List ℕ) (worker : ℕ) (v after : View) → k ≤ left → Tries k image query worker v after

@@ -6,6 +6,7 @@ use model::Verdict;
 ghost use mathlib.Core.Path.{_≡_};
 ghost use Prim.Native.Nat.{_+_, _≤_, _<_};
 ghost use lib.ListN.{length};
+ghost use Rattle.turns.specs.Hand.{AtHand};
 
 fn word(a: u8, b: u8, c: u8, d: u8) -> u32 {
     ((a as u32 * 256 + b as u32) * 256 + c as u32) * 256 + d as u32
@@ -89,13 +90,30 @@ fn steps<'a>(
     trail: &mut [u32],
     array: &mut [u32],
     workers: &mut [u32],
+    places: &mut [u32],
+    clauses: &mut [u32],
+    children: &mut [u32],
 ) -> u32
+    requires { ⌜ AtHand (now image) (now query) (now nodes) (now places) (now clauses) (now children) ⌝ }
     ensures { λ r. ⌜ r ≤ 65535 ⌝ }
 {
     let mut total: u32 = 0;
     let mut left: u32 = 65535;
     while 0 < left {
-        let end = engine::run(image, query, nodes, cells, trail, array, workers, 0, left);
+        let end = engine::run_on(
+            image,
+            query,
+            nodes,
+            cells,
+            trail,
+            array,
+            workers,
+            places,
+            clauses,
+            children,
+            0,
+            left,
+        );
         let outcome = end.outcome;
         let count = taken(end.count, left);
         total += count;
@@ -118,6 +136,10 @@ fn search<'a>(
     ensures { λ r. ⌜ r ≤ 65535 ⌝ }
 {
     moves::load(query, nodes, cells, trail, arrays, workers);
+    let mut places = [0u32; 128];
+    let mut clauses = [0u32; 128];
+    let mut children = [0u32; 64];
+    engine::begin(nodes, &mut places, &mut clauses, &mut children);
     steps(
         image,
         query,
@@ -126,6 +148,9 @@ fn search<'a>(
         trail,
         &mut arrays[..2048],
         workers,
+        &mut places,
+        &mut clauses,
+        &mut children,
     )
 }
 

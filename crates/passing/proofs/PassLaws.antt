@@ -11,13 +11,15 @@ use Rattle.model.specs.declared.Found.the-variants.{Unbound, Constant}
 use Rattle.model.specs.declared.VarNo.{VarNo}
 use Rattle.model.specs.declared.CellAddr.{CellAddr}
 use Rattle.model.specs.Fields.{op, constant, variables, clauseLength}
+use Rattle.model.specs.Decoding.{clauseFrom}
 use Rattle.model.specs.Terms.{argumentOf}
 use Rattle.model.specs.Damage.{zeros}
 use Rattle.model.specs.Steps.{raised}
+use Rattle.goals.proofs.PlaceLaws.{clauseFrom-next}
 use Rattle.passing.specs.declared.Compared.{Compared}
 use Rattle.passing.specs.declared.Compared.the-variants.{Differ, Agree, Unsure}
 use Rattle.passing.specs.Clash.{comparedWith, compare, clashes, failsPlainly}
-use Rattle.passing.specs.Passing.{Passing, passing, passOver, blank}
+use Rattle.passing.specs.Passing.{passing, passOver, blank}
 
 module _ (childBase : ℕ) (array cells : List ℕ) (slot head goal : ℕ) where
   pub compare-variable : op head ≡ 1 → Unsure ≡ compare childBase array cells slot head goal
@@ -119,6 +121,10 @@ module _ (arity node : ℕ) (image words array cells : List ℕ) (slot childBase
       → passOver arity node image words array cells slot childBase place (left - 1) (count + 1) (raised nodes node) (position + clauseLength (getD image position 0))
       ≡ passOver arity node image words array cells slot childBase place left count nodes position
   passOver-turn = passOver-by true
+
+-- the place moves on with the count
+pub place-turn : (image : List ℕ) (start count position : ℕ) → position ≡ clauseFrom image start count → position + clauseLength (getD image position 0) ≡ clauseFrom image start (count + 1)
+place-turn image start count position at = ap (λ (p : ℕ). p + clauseLength (getD image p 0)) at ∙ sym (clauseFrom-next image count start)
 
 module _ (count : ℕ) (words : List ℕ) (at : ℕ) where
   pub blank-short : length words < at + count → false ≡ blank count words at

@@ -3,9 +3,9 @@ use model::Found;
 ghost use mathlib.Core.Path.{_≡_};
 ghost use mathlib.Core.Bool.{true};
 ghost use Prim.Native.Nat.{_+_, _*_, _≤_, _<_, min};
-ghost use lib.ListN.{getD};
 ghost use Rattle.model.specs.Image.{predicateWord};
 ghost use Rattle.model.specs.Fields.{clauseCount};
+ghost use Rattle.model.specs.Decoding.{clauseFrom};
 ghost use Rattle.model.specs.Memory.{tried};
 ghost use Rattle.passing.specs.Clash.{compare, clashes, failsPlainly};
 ghost use Rattle.passing.specs.Passing.{passing, passOver, blank, skipped};
@@ -15,6 +15,12 @@ enum Compared {
     Differ,
     Agree,
     Unsure,
+}
+
+// How many clauses were passed over, and where the next one stands.
+pub struct Stretch {
+    pub count: u32,
+    pub position: u32,
 }
 
 fn compare(
@@ -114,7 +120,7 @@ fn fails_plainly(
     )
 }
 
-// At most so many clauses from a position on, as long as each is sure to fail; for each the node's tried count rises. Answers how many.
+// At most so many clauses from a position on, as long as each is sure to fail; for each the node's tried count rises. Answers how many, and the place behind them.
 fn pass_over(
     image: &[u32],
     words: &[u32],
@@ -128,9 +134,9 @@ fn pass_over(
     arity: u32,
     node: u32,
     most: u32,
-) -> u32
+) -> Stretch
     requires { ⌜ (slot < 65536) × (place < 1048576) × (arity < 65536) × (most < 1024) × (start < 134217728) ⌝ }
-    ensures { λ r. ⌜ passing (now (nodes .exit)) r ≡ passOver arity node (now (image .entry)) (now (words .entry)) (now (array .entry)) (now (cells .entry)) slot «child_base» place most 0 (now (nodes .entry)) start ⌝ }
+    ensures { λ r. ⌜ (passing (now (nodes .exit)) (r .count) ≡ passOver arity node (now (image .entry)) (now (words .entry)) (now (array .entry)) (now (cells .entry)) slot «child_base» place most 0 (now (nodes .entry)) start) × (r .position ≡ clauseFrom (now (image .entry)) start (r .count)) ⌝ }
 {
     let mut position = start;
     let mut left = most;
@@ -147,14 +153,20 @@ fn pass_over(
             place,
             arity,
         ) {
-            return count;
+            return Stretch {
+                count: count,
+                position: position,
+            };
         }
         memory::raise(nodes, node);
         position += words::clause_length(words::word_at(image, position as usize));
         count += 1;
         left -= 1;
     }
-    count
+    Stretch {
+        count: count,
+        position: position,
+    }
 }
 
 fn least(a: u32, b: u32) -> u32
@@ -177,7 +189,7 @@ fn blank(words: &[u32], start: usize, count: u32) -> bool
     bindings::zeros(words, start, count)
 }
 
-// Passes over clauses of a live node's predicate from a position on, at most so many, if the next is sure to fail and the child's trail is still empty. Answers how many.
+// Passes over clauses of a live node's predicate from a position on, at most so many, if the next is sure to fail and the child's trail is still empty. Answers how many, and the place behind them.
 pub fn skip<'a>(
     image: &'a [u32],
     query: &'a [u32],
@@ -191,10 +203,16 @@ pub fn skip<'a>(
     place: usize,
     position: u32,
     most: u32,
-) -> u32
+) -> Stretch
     requires { ⌜ (place < 1048576) × (position < 134217728) × (tried (now nodes) node ≤ clauseCount (predicateWord (now image) predicate)) ⌝ }
-    ensures { λ r. ⌜ passing (now (nodes .exit)) r ≡ skipped (now (image .entry)) (now (query .entry)) (now (nodes .entry)) (now (cells .entry)) (now (trail .entry)) (now (array .entry)) node child predicate place position most ⌝ }
+    ensures { λ r. ⌜ (passing (now (nodes .exit)) (r .count) ≡ skipped (now (image .entry)) (now (query .entry)) (now (nodes .entry)) (now (cells .entry)) (now (trail .entry)) (now (array .entry)) node child predicate place position most) × (r .position ≡ clauseFrom (now (image .entry)) position (r .count)) ⌝ }
 {
+    if most == 0 {
+        return Stretch {
+            count: 0,
+            position: position,
+        };
+    }
     let slot = memory::frame(nodes, node);
     let words = goals::clause_words(image, query, nodes, slot);
     let child_base = memory::base(nodes, node) + memory::own_variables(nodes, node);
@@ -211,10 +229,16 @@ pub fn skip<'a>(
         place,
         arity,
     ) {
-        return 0;
+        return Stretch {
+            count: 0,
+            position: position,
+        };
     }
     if !blank(trail, 32 * child as usize, 2 * arity) {
-        return 0;
+        return Stretch {
+            count: 0,
+            position: position,
+        };
     }
     let untried = words::clause_count(word) - memory::tried(nodes, node);
     pass_over(

@@ -5,7 +5,7 @@ ghost use Prim.Native.Nat.{_*_};
 ghost use lib.Dec.{eqb};
 ghost use lib.ListN.{set};
 ghost use Rattle.model.specs.Memory.{entries, parent, firstOf, cleared};
-ghost use Rattle.model.specs.Steps.{view, stepped, hasChild, anotherThere, undone, deadRule};
+ghost use Rattle.model.specs.Steps.{view, stepped, anotherThere, undone, deadRule};
 
 // Going to the parent takes a node's trailed words out of the worker's array.
 fn leave(
@@ -36,7 +36,7 @@ fn free(nodes: &mut [u32], cells: &mut [u32], trail: &mut [u32], slot: u32)
     memory::clear(trail, 32 * slot as usize, 32);
 }
 
-// Rules 1 to 4, at a dead node.
+// Rules 1 to 4, at a dead node, of which it is known whether it has a child.
 pub fn dead_step(
     nodes: &mut [u32],
     cells: &mut [u32],
@@ -45,10 +45,11 @@ pub fn dead_step(
     workers: &mut [u32],
     worker: u32,
     node: u32,
+    child: bool,
 ) -> Outcome
-    ensures { λ r. ⌜ stepped r (view (now (nodes .exit)) (now (cells .exit)) (now (trail .exit)) (now (array .exit)) (now (workers .exit))) ≡ deadRule (hasChild (now (nodes .entry)) node) (eqb node 0) (anotherThere (now (workers .entry)) worker node) (view (now (nodes .entry)) (now (cells .entry)) (now (trail .entry)) (now (array .entry)) (now (workers .entry))) worker node ⌝ }
+    ensures { λ r. ⌜ stepped r (view (now (nodes .exit)) (now (cells .exit)) (now (trail .exit)) (now (array .exit)) (now (workers .exit))) ≡ deadRule child (eqb node 0) (anotherThere (now (workers .entry)) worker node) (view (now (nodes .entry)) (now (cells .entry)) (now (trail .entry)) (now (array .entry)) (now (workers .entry))) worker node ⌝ }
 {
-    if memory::has_child(nodes, node) {
+    if child {
         return Outcome::Wait;
     }
     if node == 0 {

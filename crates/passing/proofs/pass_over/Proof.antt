@@ -1,4 +1,4 @@
--- `passing::pass_over` meets its contract. The loop's invariant: what is left to do gives the whole. Assumes nothing.
+-- `passing::pass_over` meets its contract. The loop's invariant: what is left to do gives the whole, and the place is so many clauses on. Assumes nothing.
 use mathlib.Core.List.{List}
 use mathlib.Core.Path.{_≡_, refl, sym, ap, ap₂, _∙_}
 use Prim.Native.Nat.{ℕ, _+_, _-_, _*_, _≤_}
@@ -7,9 +7,11 @@ use lib.ListN.{length}
 use borrow.Author.Tests.{not-true, not-false}
 use borrow.Author.Needs.{needs}
 use Rattle.model.specs.Fields.{clauseLength}
+use Rattle.model.specs.Decoding.{clauseFrom}
+use Rattle.goals.proofs.PlaceLaws.{clauseFrom-end}
 use Rattle.memory.proofs.FieldBounds.{clauseLength-lt}
 use Rattle.passing.specs.Passing.{passOver}
-use Rattle.passing.proofs.PassLaws.{passOver-end, passOver-stop, passOver-turn}
+use Rattle.passing.proofs.PassLaws.{passOver-end, passOver-stop, passOver-turn, place-turn}
 use Rattle.passing.proofs.pass_over.Statement.{statement}
 use Rattle.passing.proofs.pass_over.Tie as tie
 
@@ -17,12 +19,13 @@ abbrev Inv-loop : tie.InvT-loop
 Inv-loop image words nodes₀ array cells slot child-base start place arity node most position₀ left₀ count₀ nodes position left count =
     (length nodes ≡ length nodes₀) × (count + left ≡ most) × (position ≤ start + 65535 * count)
     × (passOver arity node image words array cells slot child-base place left count nodes position ≡ passOver arity node image words array cells slot child-base place most 0 nodes₀ start)
+    × (position ≡ clauseFrom image start count)
 
 abbrev μ-loop : tie.MeasureT-loop
 μ-loop image words nodes₀ array cells slot child-base start place arity node most position₀ left₀ count₀ nodes position left count = left
 
 loop-holds : tie.Need-loop-holds Inv-loop μ-loop
-loop-holds c = (refl, omega arith, omega arith, refl)
+loop-holds c = let a = c .before .before .before .before .before .args in (refl, omega arith, omega arith, refl, clauseFrom-end (a .image .now) 0 (a .start) (omega arith))
 
 fails-plainly-requires : tie.Need-fails-plainly-requires Inv-loop μ-loop
 fails-plainly-requires c κs = search needs
@@ -34,7 +37,7 @@ returns : tie.Need-returns Inv-loop μ-loop
 returns c =
     let a = c .before .before .before .before .before .before .before .before .before .args in
     let l = c .before .before .before .loop in
-    passOver-stop (a .arity) (a .node) (a .image .now) (a .words .now) (a .array .now) (a .cells .now) (a .slot) (a .child-base) (a .place) (l .left) (l .count) (l .nodes) (l .position) (c .before .before .loop-test .taken) (sym (not-true _ (c .if1 .taken)) ∙ c .before .fails-plainly .ensures) ∙ l .inv .3
+    (passOver-stop (a .arity) (a .node) (a .image .now) (a .words .now) (a .array .now) (a .cells .now) (a .slot) (a .child-base) (a .place) (l .left) (l .count) (l .nodes) (l .position) (c .before .before .loop-test .taken) (sym (not-true _ (c .if1 .taken)) ∙ c .before .fails-plainly .ensures) ∙ l .inv .3, l .inv .4)
 
 raise-requires : tie.Need-raise-requires Inv-loop μ-loop
 raise-requires c κs = search needs
@@ -71,6 +74,7 @@ loop-again c =
       ap₂ (λ (n : List ℕ) (p : ℕ). passOver (a .arity) (a .node) (a .image .now) (a .words .now) (a .array .now) (a .cells .now) (a .slot) (a .child-base) (a .place) (l .left - 1) (l .count + 1) n (l .position + p)) (c .before .before .before .before .raise .ensures) here
           ∙ passOver-turn (a .arity) (a .node) (a .image .now) (a .words .now) (a .array .now) (a .cells .now) (a .slot) (a .child-base) (a .place) (l .left) (l .count) (l .nodes) (l .position) (c .before .before .before .before .before .before .before .before .loop-test .taken) (sym (not-false _ (c .before .before .before .before .before .before .if1 .left)) ∙ c .before .before .before .before .before .before .before .fails-plainly .ensures)
           ∙ l .inv .3,
+      ap (λ (n : ℕ). l .position + n) here ∙ place-turn (a .image .now) (a .start) (l .count) (l .position) (l .inv .4),
     )
 
 same-length-2 : tie.Need-same-length-2 Inv-loop μ-loop
@@ -80,7 +84,7 @@ returns-2 : tie.Need-returns-2 Inv-loop μ-loop
 returns-2 c =
     let a = c .before .before .before .before .before .before .before .args in
     let l = c .before .loop in
-    passOver-end (a .arity) (a .node) (a .image .now) (a .words .now) (a .array .now) (a .cells .now) (a .slot) (a .child-base) (a .place) (l .left) (l .count) (l .nodes) (l .position) (c .loop-test .left) ∙ l .inv .3
+    (passOver-end (a .arity) (a .node) (a .image .now) (a .words .now) (a .array .now) (a .cells .now) (a .slot) (a .child-base) (a .place) (l .left) (l .count) (l .nodes) (l .position) (c .loop-test .left) ∙ l .inv .3, l .inv .4)
 
 pub pass-over-spec : {M : Type 1} → statement M
 pass-over-spec =

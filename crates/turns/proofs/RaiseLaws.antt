@@ -1,20 +1,20 @@
 -- What a raised tried count leaves as it was: every other field, and all that is found by them. Document 01, rule 7, "Failure: Tried; only that count has changed". Assumes nothing.
-use mathlib.Core.Path.{_≡_, refl, sym, ap, ap₂, _∙_}
+use mathlib.Core.Path.{_≡_, refl, ap, ap₂, _∙_}
 use mathlib.Core.Bool.{Bool, true, false, cond, _&&_}
 use mathlib.Core.List.{List, [], _∷_}
-use Prim.Native.Nat.{ℕ, zero, suc, _+_, _*_, _%_, _^_, _<_}
+use Prim.Native.Nat.{ℕ, zero, suc, _+_, _*_, _<_}
 use native.Mathlib.Omega.{arith}
 use native.Mathlib.Nat.{mod-lt, mod-eq-of-lt}
 use lib.Dec.{eqb}
-use lib.ListN.{length, getD, set}
+use lib.ListN.{length, getD}
 use lib.Seq.{getD-set-same, getD-set-other}
 use lib.Pow.{pow-pos}
 use Rattle.model.specs.declared.Kind.the-variants.{Node0, Node1, Node2}
-use Rattle.model.specs.Fields.{widthsOf, field, below, total, join, goalPredicate}
+use Rattle.model.specs.Fields.{widthsOf, field, below, total, goalPredicate}
 use Rattle.model.specs.Memory.{nodeWord, used, parent, base, ownVariables, clausePosition, hasGoal, frame, goalIndex, tried, wordOf, cutTo}
 use Rattle.model.specs.Goals.{clauseWords, goalPlace}
 use Rattle.model.specs.Steps.{goalOf, predicateOf, childFrom, hasChild, freeFrom, lowestFree, raised}
-use Rattle.words.specs.FieldLaws.{Fit, field-join, field-lt}
+use Rattle.words.specs.FieldLaws.{field-join, field-lt}
 
 -- a word that is not 0 stands inside its list
 getD-inside : (words : List ℕ) (at : ℕ) → 0 < getD words at 0 → at < length words

@@ -4,8 +4,8 @@ use mathlib.Core.List.{List}
 use Prim.Native.Nat.{ℕ, zero, suc, _≤_, _<_}
 use Rattle.model.specs.declared.Outcome.the-variants.{Tried}
 use Rattle.model.specs.Steps.{View, stepped, step}
-use Rattle.engine.specs.declared.Progress.{Progress}
-use Rattle.engine.specs.declared.Progress.the-variants.{Passed, Did}
+use Rattle.turns.specs.declared.Progress.{Progress}
+use Rattle.turns.specs.declared.Progress.the-variants.{Passed, Did}
 
 -- so many steps of a worker, each of which says Tried, lead from one view to another
 abbrev pub Tries : ℕ → List ℕ → List ℕ → ℕ → View → View → Type 0

@@ -1,11 +1,10 @@
 -- Each clause that is passed over is a step that says Tried and changes the tried count alone; so many of them are so many steps of a run. Document 01, rule 7. Assumes nothing.
 use mathlib.Core.Path.{_≡_, refl, sym, ap, ap₂, subst, _∙_}
 use mathlib.Core.Bool.{Bool, true, false, cond, _&&_}
-use mathlib.Core.List.{List, []}
-use Prim.Native.Nat.{ℕ, zero, suc, _+_, _-_, _*_, _≤_, _<_, min}
+use mathlib.Core.List.{List}
+use Prim.Native.Nat.{ℕ, zero, suc, _+_, _-_, _*_, _≤_, _<_}
 use native.Mathlib.Omega.{arith}
 use native.Mathlib.Nat.{add-zero}
-use native.Mathlib.Numerals.{add-one}
 use lib.Dec.{eqb, leb}
 use lib.ListN.{length, getD}
 use borrow.Author.Tests.{lt-leb, eqb-true}
@@ -13,27 +12,23 @@ use Rattle.model.specs.declared.Outcome.the-variants.{Tried}
 use Rattle.model.specs.declared.Unified.the-variants.{No}
 use Rattle.model.specs.Fields.{arity, sequential, clauseCount, firstClause, variables, clauseLength}
 use Rattle.model.specs.Image.{predicateWord}
-use Rattle.model.specs.Decoding.{clauseAt, clauseFrom, clauseNext}
+use Rattle.model.specs.Decoding.{clauseAt}
 use Rattle.model.specs.Memory.{base, ownVariables, hasGoal, frame, tried, firstOf, cleared}
 use Rattle.model.specs.Goals.{clauseWords}
-use Rattle.model.specs.Terms.{Store, store, unifyHead}
-use Rattle.model.specs.Steps.{View, view, stepped, goalOf, predicateOf, live, hasChild, lowestFree, undone, laid, raised, failed, headStore, takeClause, liveRule, step}
+use Rattle.model.specs.Terms.{unifyHead}
+use Rattle.model.specs.Steps.{view, stepped, goalOf, predicateOf, hasChild, lowestFree, laid, raised, takeClause, step}
 use Rattle.passing.specs.Clash.{clashes, failsPlainly}
-use Rattle.passing.specs.Passing.{Passing, passing, passOver, blank, skipped}
+use Rattle.passing.specs.Passing.{Passing, passing, passOver}
 use Rattle.passing.proofs.ClashLaws.{clash-undone}
 use Rattle.extension.proofs.TakeLaws.{head-from, failure-from, take-failed}
 use Rattle.memory.proofs.FieldBounds.{clauseCount-lt}
-use Rattle.engine.specs.Progress.{Tries}
-use Rattle.engine.proofs.RuleLaws.{liveRule-take}
-use Rattle.engine.proofs.StepLaws.{live-untried, step-live}
-use Rattle.engine.proofs.RaiseLaws.{raised-ownVariables, raised-base, raised-clauseWords, raised-hasChild, raised-lowestFree, raised-hasGoal, raised-frame, raised-tried, raised-goalOf, raised-predicateOf}
+use Rattle.goals.proofs.PlaceLaws.{clauseFrom-next}
+use Rattle.turns.specs.Progress.{Tries}
+use Rattle.turns.proofs.RuleLaws.{liveRule-take}
+use Rattle.turns.proofs.StepLaws.{live-untried, step-live}
+use Rattle.turns.proofs.RaiseLaws.{raised-ownVariables, raised-base, raised-clauseWords, raised-hasChild, raised-lowestFree, raised-hasGoal, raised-frame, raised-tried, raised-goalOf, raised-predicateOf}
 
--- the clause after the last of so many
-clauseFrom-next : (image : List ℕ) (clauses at : ℕ) → clauseFrom image at (clauses + 1) ≡ clauseFrom image at clauses + clauseLength (getD image (clauseFrom image at clauses) 0)
-unfolding clauseFrom clauseNext
-clauseFrom-next image zero at = refl
-clauseFrom-next image (suc clauses) at = rw add-one (simp add-one at (clauseFrom-next image clauses (at + clauseLength (getD image at 0))))
-
+-- the clause after one of a predicate's
 clauseAt-next : (image : List ℕ) (predicate clause : ℕ)
     → clauseAt image predicate (clause + 1) ≡ clauseAt image predicate clause + clauseLength (getD image (clauseAt image predicate clause) 0)
 unfolding clauseAt

@@ -12,7 +12,7 @@ use Rattle.model.specs.declared.Outcome.the-variants.{Wait, Full}
 use Rattle.model.specs.Fields.{arity, sequential, clauseCount}
 use Rattle.model.specs.Image.{predicateWord}
 use Rattle.model.specs.Decoding.{clauseAt}
-use Rattle.model.specs.Memory.{base, ownVariables, hasGoal, frame, tried, firstOf}
+use Rattle.model.specs.Memory.{base, ownVariables, frame, tried, firstOf}
 use Rattle.model.specs.Goals.{clauseWords}
 use Rattle.model.specs.Damage.{each, zeros}
 use Rattle.model.specs.Steps.{View, view, stepped, goalOf, predicateOf, hasChild, live, lowestFree, step}
@@ -20,10 +20,10 @@ use Rattle.passing.specs.Clash.{failsPlainly}
 use Rattle.passing.specs.Passing.{Passing, passing, passOver, blank, skipped}
 use Rattle.goals.proofs.PlaceLaws.{clauseAt-lt, goalOf-lt}
 use Rattle.memory.proofs.FieldBounds.{tried-lt}
-use Rattle.engine.specs.Progress.{Tries}
-use Rattle.engine.proofs.RuleLaws.{liveRule-wait, liveRule-full}
-use Rattle.engine.proofs.StepLaws.{live-holds, step-live}
-use Rattle.engine.proofs.PassingLaws.{Aim, passes}
+use Rattle.turns.specs.Progress.{Tries}
+use Rattle.turns.proofs.RuleLaws.{liveRule-wait, liveRule-full}
+use Rattle.turns.proofs.StepLaws.{live-holds, step-live}
+use Rattle.turns.proofs.PassingLaws.{Aim, passes}
 
 each-holds : (test : ℕ → Bool) (count at : ℕ) → each count test at ≡ true → (k : ℕ) → k < count → test (at + k) ≡ true
 unfolding each
