@@ -11,6 +11,7 @@ use lib.Seq.{getD-set-same, getD-set-other}
 use borrow.Author.Tests.{eq-eqb, ne-eqb, eqb-true, eqb-false, ltb-true, ltb-false}
 use Rattle.model.specs.Memory.{cleared, vnoWord, used, parent, entries}
 use Rattle.model.specs.Steps.{childFrom, anotherFrom, freeFrom, undone, laid}
+use Rattle.model.specs.Damage.{each}
 use Rattle.model.specs.Moves.{installed, climbed, leg}
 use Rattle.memory.specs.Wiped.{Wiped}
 
@@ -69,6 +70,18 @@ pub installed-end : (left : ℕ) (trail : List ℕ) (at : ℕ) (array : List ℕ
 unfolding installed
 installed-end zero trail at array h = refl
 installed-end (suc left) trail at array h = absurd (omega arith)
+
+-- a test of so many numbers holds of each
+pub each-holds : (test : ℕ → Bool) (count at : ℕ) → each count test at ≡ true → (k : ℕ) → k < count → test (at + k) ≡ true
+unfolding each
+each-holds test zero at e k h = absurd (omega arith)
+each-holds test (suc count) at e k h = go (test at) refl k h e (each-holds test count (at + 1))
+  where
+    go : (b : Bool) → test at ≡ b → (k : ℕ) → k < suc count → elim b [ true ↦ each count test (at + 1) | false ↦ false ] ≡ true
+        → (each count test (at + 1) ≡ true → (j : ℕ) → j < count → test (at + 1 + j) ≡ true) → test (at + k) ≡ true
+    go true q zero h e rest = ap test (add-zero at) ∙ q
+    go true q (suc k) h e rest = ap test (let s : at + suc k ≡ at + 1 + k = omega arith in s) ∙ rest e k (omega arith)
+    go false q k h e rest = let z : _≡_ {A = ℕ} 0 1 = cc in absurd (omega arith)
 
 -- a search among so many from a number on
 module _ (from : ℕ → ℕ → Bool) (test : ℕ → Bool) (none : (k : ℕ) → from 0 k ≡ false)

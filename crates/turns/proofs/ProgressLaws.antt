@@ -2,9 +2,9 @@
 use mathlib.Core.Path.{_≡_, refl, sym, ap, subst, _∙_}
 use mathlib.Core.Bool.{Bool, true, false, cond, _&&_}
 use mathlib.Core.List.{List}
-use Prim.Native.Nat.{ℕ, zero, suc, _+_, _-_, _*_, _≤_, _<_, min}
+use Prim.Native.Nat.{ℕ, _+_, _-_, _*_, _≤_, _<_, min}
 use native.Mathlib.Omega.{arith}
-use native.Mathlib.Nat.{add-zero, zero-add}
+use native.Mathlib.Nat.{zero-add}
 use lib.Dec.{eqb, leb}
 use lib.ListN.{length, getD}
 use borrow.Author.Tests.{eqb-true, leb-true, le-leb}
@@ -14,27 +14,17 @@ use Rattle.model.specs.Image.{predicateWord}
 use Rattle.model.specs.Decoding.{clauseAt}
 use Rattle.model.specs.Memory.{base, ownVariables, frame, tried, firstOf}
 use Rattle.model.specs.Goals.{clauseWords}
-use Rattle.model.specs.Damage.{each, zeros}
+use Rattle.model.specs.Damage.{zeros}
 use Rattle.model.specs.Steps.{View, view, stepped, goalOf, predicateOf, hasChild, live, lowestFree, step}
 use Rattle.passing.specs.Clash.{failsPlainly}
 use Rattle.passing.specs.Passing.{Passing, passing, passOver, blank, skipped}
 use Rattle.goals.proofs.PlaceLaws.{clauseAt-lt, goalOf-lt}
 use Rattle.memory.proofs.FieldBounds.{tried-lt}
+use Rattle.memory.proofs.LoopLaws.{each-holds}
 use Rattle.turns.specs.Progress.{Tries}
 use Rattle.turns.proofs.RuleLaws.{liveRule-wait, liveRule-full}
 use Rattle.turns.proofs.StepLaws.{live-holds, step-live}
 use Rattle.turns.proofs.PassingLaws.{Aim, passes}
-
-each-holds : (test : ℕ → Bool) (count at : ℕ) → each count test at ≡ true → (k : ℕ) → k < count → test (at + k) ≡ true
-unfolding each
-each-holds test zero at e k h = absurd (omega arith)
-each-holds test (suc count) at e k h = go (test at) refl k h e (each-holds test count (at + 1))
-  where
-    go : (b : Bool) → test at ≡ b → (k : ℕ) → k < suc count → elim b [ true ↦ each count test (at + 1) | false ↦ false ] ≡ true
-        → (each count test (at + 1) ≡ true → (j : ℕ) → j < count → test (at + 1 + j) ≡ true) → test (at + k) ≡ true
-    go true q zero h e rest = ap test (add-zero at) ∙ q
-    go true q (suc k) h e rest = ap test (let s : at + suc k ≡ at + 1 + k = omega arith in s) ∙ rest e k (omega arith)
-    go false q k h e rest = let z : _≡_ {A = ℕ} 0 1 = cc in absurd (omega arith)
 
 -- words that are blank stand in their list, and are 0
 blank-empty : (count : ℕ) (words : List ℕ) (at : ℕ) → blank count words at ≡ true → (at + count ≤ length words) × ((k : ℕ) → k < count → getD words (at + k) 0 ≡ 0)
