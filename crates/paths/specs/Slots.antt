@@ -82,7 +82,7 @@ module _ (image query : List ℕ) (m : Memory) (held : sound image query m ≡ t
       (goalSound image query (m .nodes) slot (ruleGoal image query (m .nodes) slot)) (slot-held slot h u .0) in
       eqb-true (base (m .nodes) slot) over (or-second (eqb slot 0) (eqb (base (m .nodes) slot) over) (rule .1) (ne-eqb slot 0 other))
 
-  linked-parent : (slot : ℕ) → slot < 64 → used (m .nodes) slot ≡ 1 → (slot ≡ 0 → ⊥) → linked image query (m .nodes) slot ≡ true
+  pub linked-parent : (slot : ℕ) → slot < 64 → used (m .nodes) slot ≡ 1 → (slot ≡ 0 → ⊥) → linked image query (m .nodes) slot ≡ true
   linked-parent slot h u other =
       let either = cond-first (eqb (used (m .nodes) slot) 1) (eqb slot 0 || linked image query (m .nodes) slot) (freeZero (m .nodes) (m .cells) (m .trail) slot) (links slot h)
       (eq-eqb (used (m .nodes) slot) 1 u) in
@@ -108,3 +108,11 @@ module _ (image query : List ℕ) (m : Memory) (held : sound image query m ≡ t
       let rest = and-held (eqb (used nodes 0) 1 && eqb (parent nodes 0) 0 && eqb (depth nodes 0) 0 && eqb (clausePosition nodes 0) 0) (eqb (base nodes 0) 0) (parts .0) in
       let rule = four-held (eqb (used nodes 0) 1) (eqb (parent nodes 0) 0) (eqb (depth nodes 0) 0) (eqb (clausePosition nodes 0) 0) (rest .0) in
       record { flat = eqb-true (depth nodes 0) 0 (rule .2); rises = rises-held }
+
+  -- the root's clause is the query, at 0
+  pub root-clause : clausePosition (m .nodes) 0 ≡ 0
+  unfolding rootSound
+  root-clause =
+      let nodes = m .nodes in
+      let rest = and-held (eqb (used nodes 0) 1 && eqb (parent nodes 0) 0 && eqb (depth nodes 0) 0 && eqb (clausePosition nodes 0) 0) (eqb (base nodes 0) 0) (parts .0) in
+      eqb-true (clausePosition nodes 0) 0 (four-held (eqb (used nodes 0) 1) (eqb (parent nodes 0) 0) (eqb (depth nodes 0) 0) (eqb (clausePosition nodes 0) 0) (rest .0) .3)

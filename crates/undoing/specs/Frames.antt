@@ -25,7 +25,7 @@ Framed nodes slot = (other : ℕ) → OnPath nodes slot other → OnPath nodes o
 
 module _ (nodes : List ℕ) (links : Links nodes) where
   -- a slot on the path is the slot itself, or on the path to its parent
-  path-either : (most slot other : ℕ) → depth nodes slot ≡ most → slot < 64 → used nodes slot ≡ 1 → onPath most nodes slot other ≡ true
+  pub path-either : (most slot other : ℕ) → depth nodes slot ≡ most → slot < 64 → used nodes slot ≡ 1 → onPath most nodes slot other ≡ true
       → (slot ≡ other) ⊎ ((slot ≡ 0 → ⊥) × OnPath nodes (parent nodes slot) other)
   unfolding onPath
   path-either zero slot other d h u e = inl (eqb-true slot other e)

@@ -6,3 +6,7 @@ pub mod Example
 pub mod Frames
 pub mod Failing
 pub mod Tried
+pub mod GoalPlaces
+pub mod FirstGoals
+pub mod HeldClauses
+pub mod Legal

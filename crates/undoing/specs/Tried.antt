@@ -1,6 +1,6 @@
 -- Document 01, rule 7: "Failure: Tried; only that count has changed." In sound memory a step that says Tried leaves the cells, the trail, the worker's array and
 -- the workers as they were, and of the node words it changes the node's count alone; for every head, variables included.
--- What the check of image and query says of the clause and the goal is a hypothesis, the record `Judged`. Assumes nothing.
+-- What the check of image and query says of the clause and the goal is a hypothesis here, the record `Judged`, which `Legal` gives. Assumes nothing.
 use mathlib.Core.Path.{_≡_, refl, ap, ap₂, subst, _∙_}
 use mathlib.Core.Logic.{_⊎_, inl, inr, ⊎-elim}
 use mathlib.Core.Bool.{Bool, true, false, not, _&&_, _||_}
