@@ -1,17 +1,14 @@
 -- In sound memory the variables on the path to a worker's node are closed under what their cells and the worker's array say: whatever is dereferenced from
 -- one of them stays among them, at ever lower numbers. Document 01, "Refused calls", condition 21. Assumes nothing.
 use mathlib.Core.Path.{_≡_, subst}
-use mathlib.Core.Bool.{true, not, _&&_, _||_}
+use mathlib.Core.Bool.{true}
 use mathlib.Core.List.{List}
 use Prim.Native.Nat.{ℕ, _+_, _-_, _*_, _/_, _%_, _<_}
 use native.Mathlib.Omega.{arith}
-use lib.Dec.{eqb, ltb}
 use lib.ListN.{getD, drop}
-use borrow.Author.Tests.{eqb-true, ltb-true}
-use Rattle.model.specs.Memory.{Memory, used, depth, entries, ownVariables, base, tag, value, cellOf, numberAt, valueAt, arrayOf}
-use Rattle.model.specs.Damage.{each, zeros, ownerOf, notAmong, notAbove, vnoAt, valueSound, cellSound, entrySound, trailSound, pathArray, sameWords, workerSound, sound}
-use Rattle.paths.specs.Held.{and-held, three-held, all-held}
-use Rattle.paths.specs.Slots.{worker-held, slot-held, cell-held, links-held}
+use Rattle.model.specs.Memory.{Memory, used, entries, ownVariables, base, tag, value, cellOf, numberAt, valueAt, arrayOf}
+use Rattle.model.specs.Damage.{cellSound, pathArray, sameWords, sound}
+use Rattle.paths.specs.Slots.{worker-stands, entry-held, cell-held, links-held}
 use Rattle.paths.specs.Ancestors.{Ancestor, ancestor}
 use Rattle.paths.specs.Values.{Reach, numberOf, Leads, zero-tag, value-leads, cell-number, cell-leads}
 use Rattle.paths.specs.Arrays.{array-says}
@@ -38,31 +35,16 @@ module _ (image query : List ℕ) (m : Memory) (held : sound image query m ≡ t
   -- a trailed value of a slot on the path to a node
   trailed-leads : (node slot : ℕ) → Ancestor (m .nodes) node slot → (entry : ℕ) → entry < entries (m .nodes) slot
       → Leads (m .nodes) node (getD (m .trail) (numberAt slot entry) 0) (getD (m .trail) (valueAt slot entry) 0)
-  unfolding trailSound entrySound
   trailed-leads node slot a entry h =
-      let nodes = m .nodes in
-      let trail = m .trail in
-      let number = getD (m .trail) (numberAt slot entry) 0 in
-      let whole = three-held (not (eqb slot 0) || eqb (entries nodes slot) 0) (each (entries nodes slot) (entrySound nodes (m .cells) trail slot) 0)
-      (zeros (32 - 2 * entries nodes slot) trail (numberAt slot (entries nodes slot))) (slot-held image query m held slot (a .fits) (a .taken) .2) in
-      let one = all-held (entrySound nodes (m .cells) trail slot) (entries nodes slot) (whole .1) entry h in
-      let last = and-held
-      (ltb number (base nodes slot) && notAmong entry trail slot number 0 && notAbove (depth nodes slot) nodes trail slot number
-      && vnoAt nodes (m .cells) (ownerOf (depth nodes slot) nodes slot number) number)
-      (valueSound nodes slot number (getD trail (valueAt slot entry) 0)) one in
-      value-leads nodes slot number (getD trail (valueAt slot entry) 0) node a (last .1)
+      value-leads (m .nodes) slot (getD (m .trail) (numberAt slot entry) 0) (getD (m .trail) (valueAt slot entry) 0) node a (entry-held image query m held slot (a .fits) (a .taken) entry h .1)
 
   module _ (worker : ℕ) (few : worker < 4) where
     node : ℕ
     node = getD (m .workers) worker 0
 
-    -- the worker stands at a used slot, with the array of its path
     stands : (node < 64) × (used (m .nodes) node ≡ 1) × (sameWords 2048 (arrayOf (m .arrays) worker) (pathArray (m .nodes) (m .trail) node) 0 ≡ true)
-    unfolding workerSound node
-    stands =
-        let rule = three-held (ltb node 64) (eqb (used (m .nodes) node) 1) (sameWords 2048 (arrayOf (m .arrays) worker) (pathArray (m .nodes) (m .trail) node) 0)
-        (worker-held image query m held worker few) in
-        (ltb-true node 64 (rule .0), eqb-true (used (m .nodes) node) 1 (rule .1), rule .2)
+    unfolding node
+    stands = worker-stands image query m held worker few
 
     -- every word of the worker's array
     array-leads : (number : ℕ) → Leads (m .nodes) node number (getD (arrayOf (m .arrays) worker) number 0)

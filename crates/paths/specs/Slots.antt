@@ -1,16 +1,16 @@
 -- What sound memory says of one slot: a free slot is blank; another used slot's parent is used, one less deep, and its variables' numbers end where the slot's begin.
 -- Document 01, "Refused calls", condition 21. Assumes nothing.
 use mathlib.Core.Path.{_≡_, ap, _∙_}
-use mathlib.Core.Bool.{true, cond, _&&_, _||_}
+use mathlib.Core.Bool.{true, cond, not, _&&_, _||_}
 use mathlib.Core.List.{List}
-use Prim.Native.Nat.{ℕ, suc, _+_, _*_, _<_}
+use Prim.Native.Nat.{ℕ, suc, _+_, _-_, _*_, _<_}
 use native.Mathlib.Omega.{arith}
-use lib.Dec.{eqb}
+use lib.Dec.{eqb, ltb}
 use lib.ListN.{getD}
-use borrow.Author.Tests.{eqb-true, eq-eqb, ne-eqb}
+use borrow.Author.Tests.{eqb-true, eq-eqb, ne-eqb, ltb-true}
 use Rattle.model.specs.Fields.{variables, firstClause}
-use Rattle.model.specs.Memory.{Memory, used, parent, depth, ownVariables, base, clausePosition, hasGoal, tried, cellOf}
-use Rattle.model.specs.Damage.{each, zeros, zeroFields, freeZero, amongClauses, rootSound, calledWord, linked, clauseOf, ruleGoal, goalSound, baseSound, nodeSound, cellSound, trailSound, slotLinked, slotSound, workerSound, sound}
+use Rattle.model.specs.Memory.{Memory, used, parent, depth, entries, ownVariables, base, clausePosition, hasGoal, tried, cellOf, numberAt, valueAt, arrayOf}
+use Rattle.model.specs.Damage.{each, zeros, zeroFields, freeZero, amongClauses, rootSound, calledWord, linked, clauseOf, ruleGoal, goalSound, baseSound, nodeSound, ownerOf, valueSound, cellSound, notAmong, notAbove, vnoAt, entrySound, trailSound, slotLinked, slotSound, pathArray, sameWords, workerSound, sound}
 use Rattle.paths.specs.Held.{and-held, three-held, four-held, or-second, cond-first, cond-second, all-held, zeros-held}
 
 -- a used slot other than the root: "a used parent, depth one more", "base is the parent's base plus the parent's variables"
@@ -33,8 +33,16 @@ module _ (image query : List ℕ) (m : Memory) (held : sound image query m ≡ t
       four-held (rootSound (m .nodes)) (each 64 (slotLinked image query (m .nodes) (m .cells) (m .trail)) 0)
       (each 64 (slotSound image query (m .nodes) (m .cells) (m .trail)) 0) (each 4 (workerSound (m .nodes) (m .trail) (m .arrays) (m .workers)) 0) held
 
-  pub worker-held : (worker : ℕ) → worker < 4 → workerSound (m .nodes) (m .trail) (m .arrays) (m .workers) worker ≡ true
-  worker-held worker h = all-held (workerSound (m .nodes) (m .trail) (m .arrays) (m .workers)) 4 (parts .3) worker h
+  -- a worker stands at a used slot, with the array of its path
+  pub worker-stands : (worker : ℕ) → worker < 4
+      → (getD (m .workers) worker 0 < 64) × (used (m .nodes) (getD (m .workers) worker 0) ≡ 1)
+      × (sameWords 2048 (arrayOf (m .arrays) worker) (pathArray (m .nodes) (m .trail) (getD (m .workers) worker 0)) 0 ≡ true)
+  unfolding workerSound
+  worker-stands worker h =
+      let node = getD (m .workers) worker 0 in
+      let rule = three-held (ltb node 64) (eqb (used (m .nodes) node) 1) (sameWords 2048 (arrayOf (m .arrays) worker) (pathArray (m .nodes) (m .trail) node) 0)
+      (all-held (workerSound (m .nodes) (m .trail) (m .arrays) (m .workers)) 4 (parts .3) worker h) in
+      (ltb-true node 64 (rule .0), eqb-true (used (m .nodes) node) 1 (rule .1), rule .2)
 
   -- a slot's links, used or free
   links : (slot : ℕ) → slot < 64 → cond (eqb (used (m .nodes) slot) 1) (eqb slot 0 || linked image query (m .nodes) slot) (freeZero (m .nodes) (m .cells) (m .trail) slot) ≡ true
@@ -73,6 +81,26 @@ module _ (image query : List ℕ) (m : Memory) (held : sound image query m ≡ t
   pub cell-held : (slot variable : ℕ) → slot < 64 → variable < 32 → used (m .nodes) slot ≡ 1 → cellSound (m .nodes) (m .cells) slot variable ≡ true
   cell-held slot variable h l u = all-held (cellSound (m .nodes) (m .cells) slot) 32 (slot-held slot h u .1) variable l
 
+  -- an entry of a used slot: its number is below the slot's base, its value is sound
+  pub entry-held : (slot : ℕ) → slot < 64 → used (m .nodes) slot ≡ 1 → (entry : ℕ) → entry < entries (m .nodes) slot
+      → (getD (m .trail) (numberAt slot entry) 0 < base (m .nodes) slot)
+      × (valueSound (m .nodes) slot (getD (m .trail) (numberAt slot entry) 0) (getD (m .trail) (valueAt slot entry) 0) ≡ true)
+  unfolding trailSound entrySound
+  entry-held slot h u entry l =
+      let nodes = m .nodes in
+      let trail = m .trail in
+      let number = getD (m .trail) (numberAt slot entry) 0 in
+      let whole = three-held (not (eqb slot 0) || eqb (entries nodes slot) 0) (each (entries nodes slot) (entrySound nodes (m .cells) trail slot) 0)
+      (zeros (32 - 2 * entries nodes slot) trail (numberAt slot (entries nodes slot))) (slot-held slot h u .2) in
+      let one = all-held (entrySound nodes (m .cells) trail slot) (entries nodes slot) (whole .1) entry l in
+      let last = and-held
+      (ltb number (base nodes slot) && notAmong entry trail slot number 0 && notAbove (depth nodes slot) nodes trail slot number
+      && vnoAt nodes (m .cells) (ownerOf (depth nodes slot) nodes slot number) number)
+      (valueSound nodes slot number (getD trail (valueAt slot entry) 0)) one in
+      let rule = four-held (ltb number (base nodes slot)) (notAmong entry trail slot number 0) (notAbove (depth nodes slot) nodes trail slot number)
+      (vnoAt nodes (m .cells) (ownerOf (depth nodes slot) nodes slot number) number) (last .0) in
+      (ltb-true number (base nodes slot) (rule .0), last .1)
+
   based-parent : (slot : ℕ) → slot < 64 → used (m .nodes) slot ≡ 1 → (slot ≡ 0 → ⊥)
       → base (m .nodes) slot ≡ base (m .nodes) (parent (m .nodes) slot) + ownVariables (m .nodes) (parent (m .nodes) slot)
   unfolding nodeSound baseSound
@@ -101,18 +129,17 @@ module _ (image query : List ℕ) (m : Memory) (held : sound image query m ≡ t
         based = based-parent slot h u other;
       }
 
-  pub links-held : Links (m .nodes)
+  -- "root used as above": its depth and its clause, which is the query
+  root-held : (depth (m .nodes) 0 ≡ 0) × (clausePosition (m .nodes) 0 ≡ 0)
   unfolding rootSound
-  links-held =
+  root-held =
       let nodes = m .nodes in
       let rest = and-held (eqb (used nodes 0) 1 && eqb (parent nodes 0) 0 && eqb (depth nodes 0) 0 && eqb (clausePosition nodes 0) 0) (eqb (base nodes 0) 0) (parts .0) in
       let rule = four-held (eqb (used nodes 0) 1) (eqb (parent nodes 0) 0) (eqb (depth nodes 0) 0) (eqb (clausePosition nodes 0) 0) (rest .0) in
-      record { flat = eqb-true (depth nodes 0) 0 (rule .2); rises = rises-held }
+      (eqb-true (depth nodes 0) 0 (rule .2), eqb-true (clausePosition nodes 0) 0 (rule .3))
 
-  -- the root's clause is the query, at 0
+  pub links-held : Links (m .nodes)
+  links-held = record { flat = root-held .0; rises = rises-held }
+
   pub root-clause : clausePosition (m .nodes) 0 ≡ 0
-  unfolding rootSound
-  root-clause =
-      let nodes = m .nodes in
-      let rest = and-held (eqb (used nodes 0) 1 && eqb (parent nodes 0) 0 && eqb (depth nodes 0) 0 && eqb (clausePosition nodes 0) 0) (eqb (base nodes 0) 0) (parts .0) in
-      eqb-true (clausePosition nodes 0) 0 (four-held (eqb (used nodes 0) 1) (eqb (parent nodes 0) 0) (eqb (depth nodes 0) 0) (eqb (clausePosition nodes 0) 0) (rest .0) .3)
+  root-clause = root-held .1

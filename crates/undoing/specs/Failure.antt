@@ -14,7 +14,8 @@ use Rattle.model.specs.Memory.{tag, value, vnoWord, firstOf, cellOf, numberAt, 
 use Rattle.model.specs.Terms.{Store, unifyHead}
 use Rattle.model.specs.Steps.{undone, laid}
 use Rattle.terms.proofs.HeadLaws.{counted}
-use Rattle.undoing.specs.OwnCells.{tag-zero, tag-vnoWord, value-vnoWord, cleared-laid, laid-other, laid-own}
+use Rattle.paths.specs.Values.{zero-tag, vno-fields}
+use Rattle.undoing.specs.OwnCells.{cleared-laid, laid-other, laid-own}
 use Rattle.undoing.specs.Reached.{Kept, KeptAt}
 use Rattle.undoing.specs.Entries.{OwnCell, Undoable, unifyHead-undoable}
 
@@ -56,10 +57,10 @@ module _ (Reach : ℕ → Type 0) (image words : List ℕ) (child childBase slot
   -- a cell of the child is its VNO, whose number is 0 in the array
   kept-own : (k : ℕ) → k < own → KeptAt Known (OwnCell child own) childBase array (firstOf child + k) (vnoWord (childBase + k))
   kept-own k h =
-      let zeroed : getD array (value (vnoWord (childBase + k))) 0 ≡ 0 =
-      ap (λ (n : ℕ). getD array n 0) (value-vnoWord (childBase + k) (omega (arith, ready .numbersFit))) ∙ ready .unbound k h in (
-        λ link. absurd (omega (arith, link, tag-vnoWord (childBase + k))),
-        λ vno. (inr (omega arith, omega arith), λ link. absurd (omega (arith, link, ap (λ (n : ℕ). tag n) zeroed, tag-zero))),
+      let vno = vno-fields (childBase + k) (omega (arith, ready .numbersFit)) in
+      let zeroed : getD array (value (vnoWord (childBase + k))) 0 ≡ 0 = ap (λ (n : ℕ). getD array n 0) (vno .1) ∙ ready .unbound k h in (
+        λ link. absurd (omega (arith, link, vno .0)),
+        λ own. (inr (omega arith, omega arith), λ link. absurd (omega (arith, link, ap (λ (n : ℕ). tag n) zeroed, zero-tag))),
       )
 
   kept-laid : Kept Known (OwnCell child own) childBase array whole

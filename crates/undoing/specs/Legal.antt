@@ -15,10 +15,9 @@ use Rattle.model.specs.Image.{predicateWord, checkQuery}
 use Rattle.model.specs.Encoding.{Words}
 use Rattle.model.specs.Memory.{Memory, used, hasGoal, frame, tried, arrayOf}
 use Rattle.model.specs.Steps.{view, viewOf, predicateOf, live, raised, step}
-use Rattle.model.specs.Damage.{pathArray, sameWords, workerSound, sound}
+use Rattle.model.specs.Damage.{sound}
 use Rattle.meaning.specs.Meaning.{legal-query-image, legal-clauses}
-use Rattle.paths.specs.Held.{three-held}
-use Rattle.paths.specs.Slots.{worker-held, links-held}
+use Rattle.paths.specs.Slots.{worker-stands, links-held}
 use Rattle.paths.specs.Ancestors.{ancestor}
 use Rattle.undoing.specs.Frames.{frame-on-path}
 use Rattle.undoing.specs.Failing.{tried-failing}
@@ -53,18 +52,9 @@ module _ (image query : List ℕ) (imageWords : Words image) (queryWords : Words
         fewHeld = omega (arith, first .0 .place .good .variables, own);
       }
 
-  -- a worker stands at a used slot
-  worker-stands : (worker : ℕ) → worker < 4 → (getD (m .workers) worker 0 < 64) × (used (m .nodes) (getD (m .workers) worker 0) ≡ 1)
-  unfolding workerSound
-  worker-stands worker few =
-      let node = getD (m .workers) worker 0 in
-      let rule = three-held (ltb node 64) (eqb (used (m .nodes) node) 1) (sameWords 2048 (arrayOf (m .arrays) worker) (pathArray (m .nodes) (m .trail) node) 0)
-      (worker-held image query m held worker few) in
-      (ltb-true node 64 (rule .0), eqb-true (used (m .nodes) node) 1 (rule .1))
-
   -- what the check says where a worker stands at a live node
   pub legal-judged : (worker : ℕ) → worker < 4 → live image query (m .nodes) (getD (m .workers) worker 0) ≡ true → Judged image query (m .nodes) (getD (m .workers) worker 0)
-  legal-judged worker few lively = let s = worker-stands worker few in node-judged (getD (m .workers) worker 0) (s .0) (s .1) lively
+  legal-judged worker few lively = let s = worker-stands image query m held worker few in node-judged (getD (m .workers) worker 0) (s .0) (s .1) lively
 
   -- "Failure: Tried; only that count has changed", for a legal image and query and sound memory
   pub tried-only-counts-legal : (worker : ℕ) → worker < 4 → length (m .cells) ≡ 2048 → length (m .trail) ≡ 2048 → step image query (viewOf m worker) worker .outcome ≡ Tried

@@ -10,28 +10,16 @@ use lib.ListN.{length, getD, set, length-set}
 use lib.Seq.{getD-set-same, getD-set-other, set-getD, set-set, set-comm}
 use lib.Pow.{pow-pos}
 use Rattle.model.specs.declared.Kind.the-variants.{Value}
-use Rattle.model.specs.Fields.{total, below, field, widthsOf}
+use Rattle.model.specs.Fields.{widthsOf}
 use Rattle.model.specs.Memory.{tag, value, cutTo, wordOf, vnoWord, refWord, cleared}
 use Rattle.model.specs.Steps.{laid}
 use Rattle.words.specs.FieldLaws.{field-join}
-
-pub tag-zero : tag 0 ≡ 0
-unfolding field widthsOf below total
-tag-zero = refl
-
-pub tag-vnoWord : (n : ℕ) → tag (vnoWord n) ≡ 0
-unfolding widthsOf wordOf cutTo
-tag-vnoWord n = field-join (widthsOf Value) (0 ∷ n % 2 ^ 29 ∷ []) (omega arith, (mod-lt n (pow-pos 29), tt)) 0
 
 pub tag-refWord : (n : ℕ) → tag (refWord n) ≡ 1
 unfolding widthsOf wordOf cutTo
 tag-refWord n = field-join (widthsOf Value) (1 ∷ n % 2 ^ 29 ∷ []) (omega arith, (mod-lt n (pow-pos 29), tt)) 0
 
 -- a value has 29 bits
-pub value-vnoWord : (n : ℕ) → n < 536870912 → value (vnoWord n) ≡ n
-unfolding widthsOf wordOf cutTo
-value-vnoWord n h = field-join (widthsOf Value) (0 ∷ n % 2 ^ 29 ∷ []) (omega arith, (mod-lt n (pow-pos 29), tt)) 1 ∙ mod-eq-of-lt h
-
 pub value-refWord : (n : ℕ) → n < 536870912 → value (refWord n) ≡ n
 unfolding widthsOf wordOf cutTo
 value-refWord n h = field-join (widthsOf Value) (1 ∷ n % 2 ^ 29 ∷ []) (omega arith, (mod-lt n (pow-pos 29), tt)) 1 ∙ mod-eq-of-lt h

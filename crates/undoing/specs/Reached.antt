@@ -19,7 +19,8 @@ use Rattle.model.specs.Fields.{op, variableNumber, constant}
 use Rattle.model.specs.Memory.{tag, value, refWord, conWord, cellOf}
 use Rattle.model.specs.Terms.{varNo, cellAddr, foundSaid, dereference, argumentOf, pairing}
 use Rattle.passing.proofs.BoundLaws.{tag-conWord}
-use Rattle.undoing.specs.OwnCells.{tag-zero, tag-refWord, value-refWord, getD-set-either}
+use Rattle.paths.specs.Values.{zero-tag}
+use Rattle.undoing.specs.OwnCells.{tag-refWord, value-refWord, getD-set-either}
 
 -- the cells that can be come to, and among them the child's own
 module _ (Known Own : ℕ → Type 0) (childBase : ℕ) where
@@ -99,7 +100,7 @@ module _ (Known Own : ℕ → Type 0) (childBase : ℕ) where
             let own = kept address known .1 (eqb-true (tag cell) 0 q) in
             dereference-said most address (getD array (value cell) 0) (own .1) (λ z. (z, (own .0, known))) rest
         go false q rest =
-            dereference-said most address cell (kept address known .0) (λ z. absurd (eqb-false (tag cell) 0 q (ap tag z ∙ tag-zero))) rest
+            dereference-said most address cell (kept address known .0) (λ z. absurd (eqb-false (tag cell) 0 q (ap tag z ∙ zero-tag))) rest
 
     pub argumentOf-well : (slot word : ℕ) → (op word ≡ 1 → Known (cellOf slot (variableNumber word))) → FoundWell array (argumentOf array cells slot word)
     unfolding argumentOf

@@ -3,23 +3,22 @@
 -- What the check of image and query says of the clause and the goal is a hypothesis here, the record `Judged`, which `Legal` gives. Assumes nothing.
 use mathlib.Core.Path.{_≡_, refl, ap, ap₂, subst, _∙_}
 use mathlib.Core.Logic.{_⊎_, inl, inr, ⊎-elim}
-use mathlib.Core.Bool.{Bool, true, false, not, _&&_, _||_}
+use mathlib.Core.Bool.{Bool, true, false}
 use mathlib.Core.List.{List}
 use Prim.Native.Nat.{ℕ, _+_, _-_, _*_, _/_, _%_, _≤_, _<_}
 use native.Mathlib.Omega.{arith}
-use lib.Dec.{eqb, ltb}
+use lib.Dec.{ltb}
 use lib.ListN.{length, getD, drop}
-use borrow.Author.Tests.{eqb-true, ltb-true, ltb-false}
+use borrow.Author.Tests.{ltb-true, ltb-false}
 use Rattle.model.specs.declared.Outcome.the-variants.{Tried}
 use Rattle.model.specs.Fields.{op, arity, variables, variableNumber}
 use Rattle.model.specs.Image.{predicateWord}
-use Rattle.model.specs.Memory.{Memory, used, depth, entries, ownVariables, base, frame, firstOf, cellOf, numberAt, valueAt, arrayOf}
+use Rattle.model.specs.Memory.{Memory, used, depth, entries, ownVariables, base, frame, firstOf, cellOf, numberAt, arrayOf}
 use Rattle.model.specs.Goals.{clauseWords}
 use Rattle.model.specs.Steps.{view, viewOf, goalOf, predicateOf, lowestFree, undone, raised, failed, headStore, step}
-use Rattle.model.specs.Damage.{each, zeros, ownerOf, onPath, notAmong, notAbove, vnoAt, valueSound, entrySound, trailSound, pathArray, sameWords, workerSound, sound}
+use Rattle.model.specs.Damage.{onPath, pathArray, sameWords, sound}
 use Rattle.memory.proofs.FieldBounds.{arity-lt, base-lt, frame-lt, ownVariables-lt}
-use Rattle.paths.specs.Held.{and-held, three-held, four-held, all-held}
-use Rattle.paths.specs.Slots.{worker-held, slot-held, links-held, free-blank}
+use Rattle.paths.specs.Slots.{worker-stands, entry-held, links-held, free-blank}
 use Rattle.paths.specs.Ancestors.{Ancestor}
 use Rattle.paths.specs.Values.{Reach}
 use Rattle.paths.specs.Arrays.{array-says}
@@ -43,21 +42,7 @@ module _ (image query : List ℕ) (m : Memory) (held : sound image query m ≡ t
   -- a number that is trailed on the path to a node is below the base of the node's children
   trailed-below : (node slot : ℕ) → Ancestor (m .nodes) node slot → (entry : ℕ) → entry < entries (m .nodes) slot
       → getD (m .trail) (numberAt slot entry) 0 < base (m .nodes) node + ownVariables (m .nodes) node
-  unfolding trailSound entrySound
-  trailed-below node slot a entry h =
-      let nodes = m .nodes in
-      let trail = m .trail in
-      let number = getD (m .trail) (numberAt slot entry) 0 in
-      let whole = three-held (not (eqb slot 0) || eqb (entries nodes slot) 0) (each (entries nodes slot) (entrySound nodes (m .cells) trail slot) 0)
-      (zeros (32 - 2 * entries nodes slot) trail (numberAt slot (entries nodes slot))) (slot-held image query m held slot (a .fits) (a .taken) .2) in
-      let one = all-held (entrySound nodes (m .cells) trail slot) (entries nodes slot) (whole .1) entry h in
-      let front = and-held
-      (ltb number (base nodes slot) && notAmong entry trail slot number 0 && notAbove (depth nodes slot) nodes trail slot number
-      && vnoAt nodes (m .cells) (ownerOf (depth nodes slot) nodes slot number) number)
-      (valueSound nodes slot number (getD trail (valueAt slot entry) 0)) one in
-      let rule = four-held (ltb number (base nodes slot)) (notAmong entry trail slot number 0) (notAbove (depth nodes slot) nodes trail slot number)
-      (vnoAt nodes (m .cells) (ownerOf (depth nodes slot) nodes slot number) number) (front .0) in
-      omega (arith, ltb-true number (base nodes slot) (rule .0), a .ends)
+  trailed-below node slot a entry h = omega (arith, entry-held image query m held slot (a .fits) (a .taken) entry h .0, a .ends)
 
   module _ (worker : ℕ) (few : worker < 4) (cellsLong : length (m .cells) ≡ 2048) (trailLong : length (m .trail) ≡ 2048)
       (judged : Judged image query (m .nodes) (getD (m .workers) worker 0)) where
@@ -73,13 +58,8 @@ module _ (image query : List ℕ) (m : Memory) (held : sound image query m ≡ t
     abbrev own : ℕ
     own = variables (getD image (clauseTaken image query (m .nodes) node) 0)
 
-    -- the worker stands at a used slot, with the array of its path
     stands : (node < 64) × (used (m .nodes) node ≡ 1) × (sameWords 2048 (arrayOf (m .arrays) worker) (pathArray (m .nodes) (m .trail) node) 0 ≡ true)
-    unfolding workerSound
-    stands =
-        let rule = three-held (ltb node 64) (eqb (used (m .nodes) node) 1) (sameWords 2048 (arrayOf (m .arrays) worker) (pathArray (m .nodes) (m .trail) node) 0)
-        (worker-held image query m held worker few) in
-        (ltb-true node 64 (rule .0), eqb-true (used (m .nodes) node) 1 (rule .1), rule .2)
+    stands = worker-stands image query m held worker few
 
     -- the array says nothing of the child's numbers
     array-unbound : (k : ℕ) → getD (arrayOf (m .arrays) worker) (childBase + k) 0 ≡ 0
