@@ -1,4 +1,6 @@
 // Condition 21: document 01, "Refused calls". Each test is a function of the words that it reads, and answers as the definition in `model` does.
+#![tactic(auto)]
+
 ghost use Rattle.std.specs.Prelude.{◌≡◌, ◌<◌, take, drop};
 ghost use Rattle.model.specs.Fields.{variables};
 ghost use Rattle.model.specs.Memory.{memory, array_of};

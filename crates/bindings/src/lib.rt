@@ -1,4 +1,6 @@
 // Condition 21, a slot's cells and trail: document 01, "Refused calls", from "a cell past the variables" to "none at the root".
+#![tactic(auto)]
+
 ghost use Rattle.std.specs.Prelude.{◌≡◌, not, ◌||◌, ◌-◌, ◌<◌, eqb};
 ghost use Rattle.model.specs.Memory.{entries};
 ghost use Rattle.model.specs.Damage.{each, zeros, on_path, owner_of, ref_sound, value_sound, cell_sound, not_among, not_above, vno_at, entry_sound, trail_sound};

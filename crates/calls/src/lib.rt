@@ -1,4 +1,6 @@
 // The calls on a loaded memory: each is its refusals, in document 01's order, and then a core that judges nothing. A refused call leaves every lent word as it is.
+#![tactic(auto)]
+
 ghost use Rattle.std.specs.Prelude.{◌≡◌, length};
 ghost use Rattle.model.specs.Memory.{memory};
 ghost use Rattle.model.specs.Calls.{lengths_right, load_refusal, call_refusal, loaded_to, load_call, step_called, step_call, run_called, run_call, move_refusal, move_called, move_call, read_refusal, read_called, read_call};

@@ -1,5 +1,7 @@
 // How many children each node has, in a table beside the memory: document 01, "Has N a child", rules 1 to 5 of the steps.
 // With the table that question is one word, and is not sought among all slots at every dead node. Assumes nothing.
+#![tactic(auto)]
+
 ghost use Rattle.std.specs.Prelude.{◌≡◌, ◌*◌, get_or};
 ghost use Rattle.model.specs.Steps.{has_child};
 ghost use Rattle.children.specs.Children.{Counted, lost, gained, followed};

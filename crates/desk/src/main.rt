@@ -1,5 +1,7 @@
 // The desk program of document 01: it reads a file of words, which its first argument names, or else standard input, and prints the listing of its search.
 // What it prints is said by `listing` of `desk_model`; here bytes are only read, handed on and written.
+#![tactic(auto)]
+
 mod help;
 
 ghost use Rattle.std.specs.Prelude.{◌≡◌, ◌+◌, ◌≤◌, length};
@@ -11,7 +13,7 @@ use desk_model::{Line, Opened};
 use libc::STDOUT_FILENO;
 
 // Whether the line printed was the last; if not, where the next stands in the block, and the steps so far.
-#[derive(Drop)]
+#[derive(Clone, Copy)]
 enum Printed {
     Last,
     More(usize, u32),

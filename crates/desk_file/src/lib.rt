@@ -1,4 +1,6 @@
 // The desk program's file: its parts, and its words laid out. Document 01, "The desk program": "query length, query, image (at most 272 and 1,024 words)".
+#![tactic(auto)]
+
 ghost use Rattle.std.specs.Prelude.{◌≡◌, ◌++◌, ◌+◌, ◌*◌, ◌≤◌, ◌<◌, length, drop};
 ghost use Rattle.model.specs.Bytes.{word_of_bytes, words_from};
 ghost use Rattle.desk_model.specs.Desk.{file_parts, laid, lay_call};

@@ -1,6 +1,8 @@
 // The answers that the definitions of the desk program in `specs/` speak of.
+#![tactic(auto)]
+
 // How a search ends.
-#[derive(Drop)]
+#[derive(Clone, Copy)]
 pub enum Ending {
     Finished,
     Full,
@@ -8,21 +10,21 @@ pub enum Ending {
 }
 
 // Where a run of worker 0 stops: at an answer, or at the search's end.
-#[derive(Drop)]
+#[derive(Clone, Copy)]
 pub enum Stop {
     Answer,
     Ended(Ending),
 }
 
 // The parts of a file: the query's length and the count of all words; or no file that is read at all.
-#[derive(Drop)]
+#[derive(Clone, Copy)]
 pub enum FileParts {
     Unfit,
     Fit(usize, usize),
 }
 
 // What opening a file answers: nothing was done, for want of room; the length of the line that refuses it; or its parts, the memory loaded.
-#[derive(Drop)]
+#[derive(Clone, Copy)]
 pub enum Opened {
     NoRoom,
     Refused(usize),
@@ -30,7 +32,7 @@ pub enum Opened {
 }
 
 // What the next line answers: nothing was done, for want of room; an answer's line, by its length, and the steps so far; or the last line, by its length.
-#[derive(Drop)]
+#[derive(Clone, Copy)]
 pub enum Line {
     NoRoom,
     More(usize, u32),

@@ -1,5 +1,7 @@
 // A step of a worker, by document 01's rules 1 to 7, and a run of steps. `array` is the worker's own part of the arrays. Nothing is judged here: see the calls.
 // What a worker has at hand through a run stands in three tables beside the memory: places of goals and of clauses that were found, and how many children each node has.
+#![tactic(auto)]
+
 ghost use Rattle.std.specs.Prelude.{◌≡◌, ◌+◌, ◌<◌};
 ghost use Rattle.turns.specs.Hand.{AtHand, Begun};
 ghost use Rattle.engine.specs.Runs.{stops, last_count};
@@ -9,7 +11,7 @@ use model::Outcome;
 use turns::Progress;
 
 // How a run ended, and the steps that it counts.
-#[derive(Drop)]
+#[derive(Clone, Copy)]
 pub struct RunEnd {
     pub outcome: Outcome,
     pub count: u32,

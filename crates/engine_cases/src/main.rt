@@ -1,5 +1,7 @@
 // Runs the stored schedules of `data/cases` (made by `tests/engine_cases.py`) over one shared memory and compares every answer, and all words after it, with what is stored.
 // It prints a line for each call that does not agree; then how often each outcome and refusal was met, and how many schedules, calls and damaged memories agree.
+#![tactic(auto)]
+
 mod answers;
 mod calling;
 mod damage;

@@ -4,7 +4,7 @@ ghost use Rattle.std.specs.Prelude.{◌≤◌, length};
 // Kind 1 load, 2 step, 3 run, 4 move, 5 read. `given` is a run's budget, a move's slot, a read's room.
 // The slice of this number, 1 nodes to 5 workers, then image and query, is lent with another length: 1 one word shorter, 2 one longer.
 // Number 0 stands for a call that is not refused; then come outcome, slot and count, or what the call has of them. After a refusal's number comes its position.
-#[derive(Drop)]
+#[derive(Clone, Copy)]
 pub struct Call {
     pub kind: u32,
     pub worker: u32,
@@ -17,7 +17,7 @@ pub struct Call {
     pub third: u32,
 }
 
-#[derive(Drop)]
+#[derive(Clone, Copy)]
 pub struct Change {
     pub slice: u32,
     pub index: u32,

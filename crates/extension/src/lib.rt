@@ -1,4 +1,6 @@
 // Rule 7 of a step: a clause is taken, its head unified with the first goal, and a child made of it or everything undone. `array` is the worker's own part of the arrays.
+#![tactic(auto)]
+
 ghost use Rattle.std.specs.Prelude.{◌≡◌, [], ◌+◌, ◌*◌, ◌<◌, get_or};
 ghost use Rattle.model.specs.Decoding.{clause_at};
 ghost use Rattle.model.specs.Fields.{variables, goal_count};

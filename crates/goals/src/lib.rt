@@ -1,4 +1,6 @@
 // Where goals and clauses stand: document 01, "The steps", first paragraph.
+#![tactic(auto)]
+
 ghost use Rattle.std.specs.Prelude.{◌≡◌, ◌+◌, ◌<◌};
 ghost use Rattle.model.specs.Decoding.{goal_next, goal_from, clause_from, clause_at};
 ghost use Rattle.model.specs.Goals.{clause_words, past_head, goal_place, goals_of, next_goal, child_goal};

@@ -1,4 +1,6 @@
 // What the signing host in C sees: exported functions over its slices. `include/cumbwael.h` declares them.
+#![tactic(auto)]
+
 mod answers;
 mod search;
 
@@ -15,7 +17,7 @@ use model::{Fault, Refusal, Verdict};
 
 // What every other call answers: the number of the refusal, 0 if there is none, and its position; else what was done. What does not apply is 0.
 #[repr(C)]
-#[derive(Drop)]
+#[derive(Clone, Copy)]
 pub struct Answer {
     pub refusal: u32,
     pub position: u32,

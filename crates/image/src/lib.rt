@@ -1,4 +1,6 @@
 // The check of an image and of a query: document 01, "Rule image". Each function takes the walk on from a position, or answers the fault that stops it.
+#![tactic(auto)]
+
 ghost use Rattle.std.specs.Prelude.{◌≡◌, ◌+◌, ◌≤◌, ◌<◌};
 ghost use Rattle.model.specs.Fields.{variables, goal_count};
 ghost use Rattle.model.specs.Image.{onward, variable_at, argument, arguments, goal_word, goal, goals, clause_word, clause_end, clause, clauses, predicate, predicates, header, ending, image_walk, query_walk, check_image, check_query};

@@ -2,12 +2,14 @@
 //
 // A case is five words, then its words: kind, words of the image, words of the query, number and position that the check must give.
 // Kind 0 is an image, 1 an image and a query, 2 to 5 the image's bytes less 0 to 3 of them, 6 a long image made here from one word.
+#![tactic(auto)]
+
 ghost use Rattle.std.specs.Prelude.{◌+◌, ◌*◌, ◌≤◌, ◌<◌, length};
 
 use libc::STDOUT_FILENO;
 use model::Verdict;
 
-#[derive(Drop)]
+#[derive(Clone, Copy)]
 enum Found {
     Agrees(usize),
     Differs(usize),

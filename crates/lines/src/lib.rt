@@ -1,5 +1,7 @@
 // The lines of the desk program's listing: document 01, "The desk program". Each public function writes one line at the front of a room of at least 1,024 bytes,
 // leaves the bytes past it, and answers how long the line is; in less room it writes nothing and answers 0.
+#![tactic(auto)]
+
 ghost use Rattle.std.specs.Prelude.{◌≡◌, ◌&&◌, ◌+◌, ◌*◌, ◌≤◌, ◌<◌, length, set};
 ghost use Rattle.desk_model.specs.Lines.{decimal, spaced, value_text, value_texts, answer_line, ending_name, ending_line, refused_line, written, wrote, line_in, roomy, few_values};
 

@@ -1,5 +1,7 @@
 // The desk program's listing, line by line: document 01, "The desk program". `open` takes a file's bytes to a loaded memory, or to the line that refuses it;
 // `next_line` then runs worker 0 to its next stop and writes the line for it. Both work in what they are lent, so a listing of any length needs no more room.
+#![tactic(auto)]
+
 ghost use Rattle.std.specs.Prelude.{◌≡◌, true, List, ℕ, ◌+◌, ◌-◌, ◌≤◌, length, take, drop};
 ghost use Rattle.model.specs.Memory.{memory};
 ghost use Rattle.model.specs.Calls.{load_call};
@@ -11,7 +13,7 @@ use desk_model::{Ending, FileParts, Line, Opened, Stop};
 use model::{Outcome, Verdict};
 
 // Where worker 0 stopped, and the steps so far.
-#[derive(Drop)]
+#[derive(Clone, Copy)]
 struct StopReached {
     stop: Stop,
     steps: u32,

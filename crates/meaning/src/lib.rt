@@ -1,1 +1,3 @@
 // No code: what a legal image means, as theorems in `specs/`.
+#![tactic(auto)]
+

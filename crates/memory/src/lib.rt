@@ -1,4 +1,6 @@
 // The shared memory in words: document 01, "Shared memory". Reads past the end give 0, stores past the end do nothing.
+#![tactic(auto)]
+
 ghost use Rattle.std.specs.Prelude.{◌≡◌, [], ◌∷◌, ◌+◌, ◌*◌, ◌≤◌, ◌<◌, length, get_or, ◌&&◌, not, eqb};
 ghost use Rattle.model.specs.declared.Kind.TheVariants.{Node0, Node1, Node2, Value};
 ghost use Rattle.model.specs.Fields.{widths_of, field};

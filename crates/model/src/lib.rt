@@ -1,7 +1,8 @@
 // The answers and kinds that the definitions of `specs/` speak of. Each enum has a definition there that gives document 01's number for each case.
+#![tactic(auto)]
 
 // The kinds of word of document 01: the rule image's, then the shared memory's.
-#[derive(Drop)]
+#[derive(Clone, Copy)]
 pub enum Kind {
     Header,
     Predicate,
@@ -17,7 +18,7 @@ pub enum Kind {
 }
 
 // What is wrong with an image or a query: faults 1 to 17, in their order.
-#[derive(Drop)]
+#[derive(Clone, Copy)]
 pub enum Fault {
     EmptyImage,
     WrongEdition,
@@ -39,14 +40,14 @@ pub enum Fault {
 }
 
 // Where the check stands: on, at a word and with so many variables seen in the clause; or stopped by a fault met at a word.
-#[derive(Drop)]
+#[derive(Clone, Copy)]
 pub enum Walk {
     On(usize, u32),
     Met(Fault, usize),
 }
 
 // Why a call is refused: a fault of the image; a fault of the query, whose numbers are its own; and what is wrong with a spread list or a room.
-#[derive(Drop)]
+#[derive(Clone, Copy)]
 pub enum Refusal {
     Image(Fault),
     Query(Fault),
@@ -62,50 +63,50 @@ pub enum Refusal {
 }
 
 // What a check answers: legal, or the refusal and the position.
-#[derive(Drop)]
+#[derive(Clone, Copy)]
 pub enum Verdict {
     Legal,
     Refused(Refusal, usize),
 }
 
 // Where the scan of a spread list stands: through, up to a place in the list or a count of words; or stopped by a refusal at a place.
-#[derive(Drop)]
+#[derive(Clone, Copy)]
 pub enum Scan {
     Through(usize),
     Stopped(Refusal, usize),
 }
 
 // What a call that writes into a room answers: the count of words written, or the refusal and the position.
-#[derive(Drop)]
+#[derive(Clone, Copy)]
 pub enum Written {
     Done(usize),
     Refused(Refusal, usize),
 }
 
 // A variable's number: it names a slot of the binding arrays, and repeats on sibling branches.
-#[derive(Drop)]
+#[derive(Clone, Copy)]
 pub struct VarNo(pub u32);
 
 // A cell's address: it names a cell, and does not repeat.
-#[derive(Drop)]
+#[derive(Clone, Copy)]
 pub struct CellAddr(pub u32);
 
 // What dereferencing answers.
-#[derive(Drop)]
+#[derive(Clone, Copy)]
 pub enum Found {
     Unbound(VarNo, CellAddr),
     Constant(u32),
 }
 
 // Where a node's first goal stands: the slot whose clause holds it, and its place there.
-#[derive(Drop)]
+#[derive(Clone, Copy)]
 pub enum FirstGoal {
     NoGoal,
     Goal(u32, u32),
 }
 
 // What unifying two dereferenced arguments comes to: nothing to do, a clash of constants, or a binding of a variable to a word.
-#[derive(Drop)]
+#[derive(Clone, Copy)]
 pub enum Pairing {
     Nothing,
     Clash,
@@ -113,14 +114,14 @@ pub enum Pairing {
 }
 
 // How unifying a pair of arguments, or a head, ends, and how many trail entries the child has then.
-#[derive(Drop)]
+#[derive(Clone, Copy)]
 pub enum Unified {
     Yes(u32),
     No(u32),
 }
 
 // What a step or a run did. Document 01 gives the numbers in brackets.
-#[derive(Drop)]
+#[derive(Clone, Copy)]
 pub enum Outcome {
     Tried,
     Extended,
@@ -134,21 +135,21 @@ pub enum Outcome {
 }
 
 // What a step answers: the outcome and the worker's slot, or the refusal and the position.
-#[derive(Drop)]
+#[derive(Clone, Copy)]
 pub enum StepAnswer {
     Done(Outcome, u32),
     Refused(Refusal, usize),
 }
 
 // What a run answers: the outcome, the worker's slot and the steps counted, or the refusal and the position.
-#[derive(Drop)]
+#[derive(Clone, Copy)]
 pub enum RunAnswer {
     Done(Outcome, u32, u32),
     Refused(Refusal, usize),
 }
 
 // What a move answers: the entries passed on both legs, or the refusal and the position.
-#[derive(Drop)]
+#[derive(Clone, Copy)]
 pub enum MoveAnswer {
     Done(u32),
     Refused(Refusal, usize),

@@ -1,5 +1,7 @@
 // Load, moves and reading an answer, in words: document 01, "The steps", last paragraph, and "Refused calls" on load.
 // Nothing is judged here. A move and a read work in the worker's own part of the arrays.
+#![tactic(auto)]
+
 ghost use Rattle.std.specs.Prelude.{◌≡◌, List, [], ◌∷◌, ◌++◌, ℕ, ◌+◌, ◌*◌, ◌≤◌, ◌<◌, length, get_or, set, take, drop, replicate};
 ghost use Rattle.model.specs.declared.Kind.TheVariants.{Var, Con};
 ghost use Rattle.model.specs.Fields.{variables};

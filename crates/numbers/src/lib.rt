@@ -1,4 +1,6 @@
 // Document 01's number for each refusal and each outcome, as the definitions of `model` give them.
+#![tactic(auto)]
+
 ghost use Rattle.std.specs.Prelude.{◌≡◌, ◌<◌};
 ghost use Rattle.model.specs.Numbers.{fault_number, refusal_number};
 ghost use Rattle.model.specs.Machine.{outcome_number};

@@ -1,5 +1,7 @@
 // Searches for a stored query over and over, so that the time of a step can be taken from outside: it reads no clock. Prints how many searches it made, and their steps.
 // The first argument names a file of words, most significant byte first: query length, query, image. The second says how many searches. Without arguments: the file `words`, once; it is workload w4 of `bench/workloads.py`, whose 10,000 answers are passed over.
+#![tactic(auto)]
+
 ghost use Rattle.std.specs.Prelude.{◌≡◌, ◌+◌, ◌≤◌, ◌<◌, length};
 ghost use Rattle.turns.specs.Hand.{AtHand};
 

@@ -1,4 +1,6 @@
 // Clauses whose heads are sure to fail are passed over in one loop: they have no variables and differ from the goal in a constant. Document 01, rule 7, "Failure".
+#![tactic(auto)]
+
 ghost use Rattle.std.specs.Prelude.{◌≡◌, true, ◌+◌, ◌*◌, ◌≤◌, ◌<◌, min};
 ghost use Rattle.model.specs.Image.{predicate_word};
 ghost use Rattle.model.specs.Fields.{clause_count};
@@ -10,7 +12,7 @@ ghost use Rattle.passing.specs.Passing.{passing, pass_over, blank, skipped};
 use model::Found;
 
 // What a head's argument and a goal's come to while nothing is bound: they differ, they agree or one takes the other, or it is not known.
-#[derive(Drop)]
+#[derive(Clone, Copy)]
 enum Compared {
     Differ,
     Agree,
@@ -18,7 +20,7 @@ enum Compared {
 }
 
 // How many clauses were passed over, and where the next one stands.
-#[derive(Drop)]
+#[derive(Clone, Copy)]
 pub struct Stretch {
     pub count: u32,
     pub position: u32,

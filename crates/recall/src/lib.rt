@@ -1,4 +1,6 @@
 // Places that were found before are kept at hand through a run, so that no goal and no clause is walked to again. What is kept is the place and what names it; image and query never change, so it stays true whatever becomes of the memory. Document 01, "The steps".
+#![tactic(auto)]
+
 ghost use Rattle.std.specs.Prelude.{◌≡◌, ◌<◌};
 ghost use Rattle.model.specs.Decoding.{clause_at};
 ghost use Rattle.model.specs.Steps.{goal_of};

@@ -1,4 +1,6 @@
 // Rules 1 to 4 of a step: what a worker does at a dead node. `array` is the worker's own part of the arrays. Nothing is judged here: see the calls.
+#![tactic(auto)]
+
 ghost use Rattle.std.specs.Prelude.{◌≡◌, ◌*◌, eqb, set};
 ghost use Rattle.model.specs.Memory.{entries, parent, first_of, cleared};
 ghost use Rattle.model.specs.Steps.{view, stepped, another_there, undone, dead_rule};

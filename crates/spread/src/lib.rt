@@ -1,4 +1,6 @@
 // Packing and unpacking the spread form: document 01, "Rule image", last paragraph.
+#![tactic(auto)]
+
 mod groups;
 mod kept;
 mod spreading;

@@ -1,5 +1,7 @@
 // Packs and unpacks the stored lists and images of `data/cases` (made by `tests/spread_cases.py`) and compares answer and room with what is stored.
 // It prints a line for each case that does not agree, and then how many agree.
+#![tactic(auto)]
+
 ghost use Rattle.std.specs.Prelude.{◌≡◌, ◌≤◌, length};
 
 use libc::STDOUT_FILENO;

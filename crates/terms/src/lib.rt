@@ -1,4 +1,6 @@
 // Dereferencing, binding and unifying in words: document 01, "Unifying". The array is one worker's own part of the arrays.
+#![tactic(auto)]
+
 ghost use Rattle.std.specs.Prelude.{◌≡◌, ◌+◌, ◌≤◌, ◌<◌, get_or};
 ghost use Rattle.model.specs.Memory.{cell_of};
 ghost use Rattle.model.specs.Terms.{says, found_said, dereference, argument_of, store, bind, pairing, unify_pair, unify_words, unify_head};

@@ -1,1 +1,2 @@
 // Facts about the definitions of `model`; all of them stand in the specifications.
+#![tactic(auto)]

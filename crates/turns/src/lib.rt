@@ -1,5 +1,7 @@
 // One turn of a run: a step by document 01's rules 1 to 7, or as many as pass over clauses that are sure to fail. `array` is the worker's own part of the arrays.
 // What a worker has at hand stands in three tables beside the memory: places of goals and of clauses that were found, and how many children each node has.
+#![tactic(auto)]
+
 mod dead;
 mod live;
 mod taking;
@@ -14,7 +16,7 @@ use live::{LiveGoal, live_advance, live_goal};
 use model::Outcome;
 
 // How far a run came: so many clauses passed over, each a step that says Tried, or one step.
-#[derive(Drop)]
+#[derive(Clone, Copy)]
 pub enum Progress {
     Passed(u32),
     Did(Outcome),

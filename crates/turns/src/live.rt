@@ -12,7 +12,7 @@ use crate::taking::take_next;
 use model::Outcome;
 
 // Whether a node is live, and then the predicate that its first goal calls and the goal's place.
-#[derive(Drop)]
+#[derive(Clone, Copy)]
 pub enum LiveGoal {
     Dead,
     Live(u32, usize),

@@ -1,1 +1,3 @@
 // No code: a head that fails leaves nothing behind, as theorems in `specs/`.
+#![tactic(auto)]
+

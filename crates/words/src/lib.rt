@@ -1,4 +1,6 @@
 // The fields of a word: reading them, and placing values in them. The field widths stand once, in `WIDTHS`.
+#![tactic(auto)]
+
 ghost use Rattle.std.specs.Prelude.{◌≡◌, ◌+◌, ◌*◌, ◌%◌, ◌^◌, ◌≤◌, ◌<◌, ltb, get_or, set};
 ghost use Rattle.model.specs.Fields.{widths_of, kept_fields, below, field, edition, predicate_count, header_zero, image_length, arity, clause_count, first_clause, op, variables, goal_count, clause_length, variable_zero, variable_number, goal_predicate, goal_zero, constant, sequential};
 ghost use Rattle.model.specs.Memory.{tag, value};
