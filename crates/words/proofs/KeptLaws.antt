@@ -1,19 +1,17 @@
 -- The code's tables of the spread form against the definition's. Document 01, "zero fields dropped". Assumes nothing.
-use mathlib.Core.Path.{◌≡◌, refl, sym, ap, ◌∙◌}
+use mathlib.Core.Path.{◌≡◌, refl}
 use mathlib.Core.Bool.{Bool}
 use mathlib.Core.List.{List, [], ◌∷◌}
-use Prim.Native.Nat.{ℕ, ◌+◌, ◌*◌, ◌%◌, ◌^◌, ◌≤◌, ◌<◌}
+use Prim.Native.Nat.{ℕ, ◌≤◌, ◌<◌}
 use native.Mathlib.Omega.{arith}
-use native.Mathlib.Nat.{lt_of_lt_of_le, zero-mul}
-use lib.Pow.{pow_mono, shl_lt, shl_exact}
 use lib.Dec.{T, eqb, eqb→eq, lit≤}
 use lib.ListN.{length, get_or, get_or-eq_default}
 use Rattle.model.specs.declared.Kind.{Kind}
 use Rattle.model.specs.declared.Kind.TheVariants.{Header, Predicate, Clause, Var, Con, Goal, Node0, Node1, Node2, Node3, Value}
-use Rattle.model.specs.Fields.{widths_of, kept_fields, below}
+use Rattle.model.specs.Fields.{kept_fields}
 use Rattle.model.specs.Spread.{group_size}
 use Rattle.words.specs.Table.{row_of}
-use Rattle.words.proofs.TableLaws.{upto, upto-at, within, width-past}
+use Rattle.words.proofs.TableLaws.{upto, upto-at}
 
 -- the code's arrays, as they stand there
 abbrev pub kept : List (List ℕ)

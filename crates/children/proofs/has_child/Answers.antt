@@ -1,0 +1,12 @@
+-- `children::has_child` meets its contract: a count that is right says whether there is a child. Assumes nothing.
+use mathlib.Core.Path.{sym, ap, ◌∙◌}
+use mathlib.Core.Bool.{not}
+use Prim.Native.Nat.{ℕ}
+use lib.Dec.{eqb}
+use Rattle.children.proofs.ChildLaws.{child_from-counts}
+use borrow.Author.Rules.{rules}
+use Rattle.children.proofs.has_child.Goals as goal
+
+pub returns-then-at-children : goal.returns-then-at-children
+returns-then-at-children c = let a = c.args in
+    ap (λ (count : ℕ). not (eqb count 0)) (c.requires a.node c.if-at-children.true) ∙ sym (child_from-counts 63 a.nodes.now a.node 1)

@@ -1,0 +1,8 @@
+-- `lines::put` meets its contract. Assumes nothing.
+use mathlib.Core.Path.{sym}
+use lib.Seq.{set_out}
+use borrow.Author.Rules.{rules}
+use Rattle.lines.proofs.put.Goals as goal
+
+pub returns-else-at-line : goal.returns-else-at-line
+returns-else-at-line c = sym (set_out c.args.line.now c.args.at c.args.byte c.if-at-line.false)

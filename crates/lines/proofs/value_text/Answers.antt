@@ -1,0 +1,10 @@
+-- `lines::value_text` meets its contract. Assumes nothing.
+use Rattle.lines.proofs.WholeLaws.{value-constant, value-variable}
+use borrow.Author.Rules.{rules}
+use Rattle.lines.proofs.value_text.Goals as goal
+
+pub returns-then-op-eq2 : goal.returns-then-op-eq2
+returns-then-op-eq2 c = let a = c.args in value-constant a.word a.at c.op.result _ a.line.now _ _ _ _ c.op.ensures c.if-op-eq2.true c.constant.ensures c.put.ensures c.put-then-op-eq2.ensures c.decimal.ensures
+
+pub returns : goal.returns
+returns c = let a = c.args in value-variable a.word a.at c.op.result _ a.line.now _ _ _ _ c.op.ensures c.if-op-eq2.false c.variable_number.ensures c.put.ensures c.put-2.ensures c.decimal-2.ensures
