@@ -1,0 +1,5 @@
+-- The measure of `lines::decimal`: the number whose digits are left. Assumes nothing.
+use Rattle.lines.proofs.+decimal.Given as goal
+
+abbrev pub decreases-decimal : goal.decreases-decimal
+decreases-decimal l = l.n
