@@ -1,0 +1,12 @@
+-- `goals::goals_of` meets its contract. Assumes nothing.
+use mathlib.Core.List.{List}
+use mathlib.Core.Path.{ap, ap₂, ◌∙◌}
+use Prim.Native.Nat.{ℕ}
+use lib.ListN.{get_or}
+use borrow.Author.Rules.{rules}
+use Rattle.model.specs.Fields.{goal_count}
+use Rattle.goals.proofs.goals_of.Goals as goal
+
+pub returns : goal.returns
+returns c = let a = c.args in
+    c.goal_count.ensures ∙ ap goal_count (c.word_at.ensures ∙ ap₂ (λ (words : List ℕ) (at : ℕ). get_or words at 0) c.clause_words.ensures c.clause_position-at.ensures)

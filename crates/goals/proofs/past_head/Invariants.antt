@@ -1,0 +1,15 @@
+-- `goals::past_head` meets its contract. The loop's invariant: what is left to do gives the whole. Assumes nothing.
+use mathlib.Core.Path.{◌≡◌, refl, sym, ap, ◌∙◌}
+use Prim.Native.Nat.{◌+◌}
+use native.Mathlib.Omega.{arith}
+use borrow.Author.Rules.{rules}
+use Rattle.model.specs.Goals.{past_head}
+use Rattle.model.specs.Fields.{op}
+use Rattle.goals.proofs.PlaceLaws.{past_head-end, past_head-hit, past_head-miss}
+use Rattle.goals.proofs.past_head.Given as goal
+
+abbrev pub invariant-loop-left : goal.invariant-loop-left
+invariant-loop-left l = (l.at + l.left ≡ l.start + l.most) × (past_head l.left l.words l.at ≡ past_head l.most l.words l.start)
+
+abbrev pub decreases-loop-left : goal.decreases-loop-left
+decreases-loop-left l = l.left
