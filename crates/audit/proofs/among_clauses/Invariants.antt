@@ -1,0 +1,17 @@
+-- `audit::among_clauses` meets its contract. The loop's invariant: what is left to do gives the whole. Assumes nothing.
+use mathlib.Core.Path.{◌≡◌, refl, ap, ◌∙◌}
+use Prim.Native.Nat.{ℕ, ◌+◌, ◌-◌, ◌*◌, ◌≤◌}
+use native.Mathlib.Omega.{arith}
+use lib.ListN.{get_or}
+use borrow.Author.Rules.{rules}
+use Rattle.model.specs.Damage.{among_clauses}
+use Rattle.model.specs.Fields.{clause_length}
+use Rattle.memory.proofs.FieldBounds.{clause_length-lt}
+use Rattle.audit.proofs.AuditLaws.{among-end, among-hit, among-miss}
+use Rattle.audit.proofs.among_clauses.Given as goal
+
+abbrev pub invariant-loop-left : goal.invariant-loop-left
+invariant-loop-left l = (l.at + 65536 * l.left ≤ l.start + 65536 * l.count) × (among_clauses l.left l.image l.at l.position ≡ among_clauses l.count l.image l.start l.position)
+
+abbrev pub decreases-loop-left : goal.decreases-loop-left
+decreases-loop-left l = l.left

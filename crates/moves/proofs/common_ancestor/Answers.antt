@@ -1,0 +1,58 @@
+-- `moves::common_ancestor` meets its contract. The loop's invariant: what is left to do gives the whole. Assumes nothing.
+use mathlib.Core.Logic.{⊎_elim}
+use mathlib.Core.Path.{◌≡◌, ap₂, ◌∙◌}
+use Prim.Native.Nat.{ℕ, ◌+◌, ◌-◌}
+use native.Mathlib.Omega.{arith}
+use Rattle.model.specs.Moves.{meeting, common_ancestor}
+use Rattle.model.specs.Memory.{depth}
+use Rattle.memory.proofs.FieldBounds.{depth-lt}
+use Rattle.moves.proofs.MoveLaws.{meeting-end, meeting-met, meeting-other, meeting-slot}
+use Rattle.moves.proofs.common_ancestor.Goals as goal
+
+pub depth-requires : goal.depth-requires
+depth-requires c = omega arith
+
+pub depth-requires-2 : goal.depth-requires-2
+depth-requires-2 c = omega arith
+
+pub overflow_add-left : goal.overflow_add-left
+overflow_add-left c = let a = c.args in omega (arith, c.depth.ensures, c.depth-2.ensures, depth-lt a.nodes.now a.slot, depth-lt a.nodes.now a.other)
+
+pub loop-left-init : goal.loop-left-init
+loop-left-init c = let a = c.args in ap₂ (λ (i j : ℕ). meeting (i + j) a.nodes.now a.slot a.other) c.depth.ensures c.depth-2.ensures
+
+pub returns-then-here-there : goal.returns-then-here-there
+returns-then-here-there c = let l = c.loop-left in meeting-met c.args.nodes.now l.left l.here l.there c.if-here-there.true ∙ l.invariant
+
+pub depth-requires-in-loop-left : goal.depth-requires-in-loop-left
+depth-requires-in-loop-left c = omega arith
+
+pub depth-requires-in-loop-left-2 : goal.depth-requires-in-loop-left-2
+depth-requires-in-loop-left-2 c = omega arith
+
+pub parent-there-requires : goal.parent-there-requires
+parent-there-requires c = omega arith
+
+pub parent-here-requires : goal.parent-here-requires
+parent-here-requires c = omega arith
+
+pub overflow_sub-left : goal.overflow_sub-left
+overflow_sub-left c = omega arith
+
+pub loop-left-smaller : goal.loop-left-smaller
+loop-left-smaller c = omega arith
+
+pub loop-left-preserved : goal.loop-left-preserved
+loop-left-preserved c = let l = c.loop-left in
+    let a = c.args in
+    ⊎_elim
+    (λ w.
+    ap₂ (λ (i j : ℕ). meeting (l.left - 1) a.nodes.now i j) w.2 (w.3 ∙ w.1.ensures)
+    ∙ meeting-other a.nodes.now l.left l.here l.there (omega arith) c.if-here-there.false (omega (arith, w.0.taken, c.depth-in-loop-left.ensures, c.depth-in-loop-left-2.ensures)) ∙ l.invariant)
+    (λ w.
+    ap₂ (λ (i j : ℕ). meeting (l.left - 1) a.nodes.now i j) (w.2 ∙ w.1.ensures) w.3
+    ∙ meeting-slot a.nodes.now l.left l.here l.there (omega arith) c.if-here-there.false (omega (arith, w.0.left, c.depth-in-loop-left.ensures, c.depth-in-loop-left-2.ensures)) ∙ l.invariant)
+    c.if-depth.branch
+
+pub returns : goal.returns
+returns c = let l = c.loop-left in meeting-end c.args.nodes.now l.left l.here l.there c.loop-left-test.false ∙ l.invariant

@@ -1,0 +1,11 @@
+-- `passing::blank` meets its contract. Assumes nothing.
+use mathlib.Core.Path.{◌∙◌}
+use borrow.Author.Rules.{rules}
+use Rattle.passing.proofs.PassLaws.{blank-short, blank-long}
+use Rattle.passing.proofs.blank.Goals as goal
+
+pub returns-then-words-start : goal.returns-then-words-start
+returns-then-words-start c = let a = c.args in blank-short a.count a.words.now a.start c.if-words-start.true
+
+pub returns : goal.returns
+returns c = let a = c.args in c.zeros.ensures ∙ blank-long a.count a.words.now a.start c.if-words-start.false

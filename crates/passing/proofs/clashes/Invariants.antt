@@ -1,0 +1,15 @@
+-- `passing::clashes` meets its contract. The loop's invariant: what is left to do gives the whole. Assumes nothing.
+use mathlib.Core.Path.{◌≡◌, sym, ap₂, ◌∙◌}
+use Prim.Native.Nat.{ℕ, ◌+◌, ◌-◌}
+use native.Mathlib.Nat.{add-zero}
+use native.Mathlib.Omega.{arith}
+use borrow.Author.Rules.{rules}
+use Rattle.passing.specs.Clash.{compare, clashes}
+use Rattle.passing.proofs.PassLaws.{clashes-end, clashes-differ, clashes-unsure, clashes-turn}
+use Rattle.passing.proofs.clashes.Given as goal
+
+abbrev pub invariant-loop-left : goal.invariant-loop-left
+invariant-loop-left l = (l.k + l.left ≡ l.arity) × (clashes l.left l.image l.words l.array l.cells l.slot l.child_base (l.head + l.k) (l.goal + l.k) ≡ clashes l.arity l.image l.words l.array l.cells l.slot l.child_base l.head l.goal)
+
+abbrev pub decreases-loop-left : goal.decreases-loop-left
+decreases-loop-left l = l.left
