@@ -7,6 +7,7 @@ use Rattle.model.specs.Moves.{meeting, common_ancestor}
 use Rattle.model.specs.Memory.{depth}
 use Rattle.memory.proofs.FieldBounds.{depth-lt}
 use Rattle.moves.proofs.MoveLaws.{meeting-end, meeting-met, meeting-other, meeting-slot}
+use Rattle.moves.proofs.common_ancestor.Goals.{then-depth, else-depth}
 use Rattle.moves.proofs.common_ancestor.Goals as goal
 
 pub depth-requires : goal.depth-requires
@@ -43,16 +44,17 @@ pub loop-left-smaller : goal.loop-left-smaller
 loop-left-smaller c = omega arith
 
 pub loop-left-preserved : goal.loop-left-preserved
-loop-left-preserved c = let l = c.loop-left in
+loop-left-preserved c =
+    let l = c.loop-left in
     let a = c.args in
-    ⊎_elim
-    (λ w.
-    ap₂ (λ (i j : ℕ). meeting (l.left - 1) a.nodes.now i j) w.2 (w.3 ∙ w.1.ensures)
-    ∙ meeting-other a.nodes.now l.left l.here l.there (omega arith) c.if-here-there.false (omega (arith, w.0.taken, c.depth-in-loop-left.ensures, c.depth-in-loop-left-2.ensures)) ∙ l.invariant)
-    (λ w.
-    ap₂ (λ (i j : ℕ). meeting (l.left - 1) a.nodes.now i j) (w.2 ∙ w.1.ensures) w.3
-    ∙ meeting-slot a.nodes.now l.left l.here l.there (omega arith) c.if-here-there.false (omega (arith, w.0.left, c.depth-in-loop-left.ensures, c.depth-in-loop-left-2.ensures)) ∙ l.invariant)
-    c.if-depth.branch
+    elim c.if-depth.branch [
+      then-depth w ↦
+        ap₂ (λ (i j : ℕ). meeting (l.left - 1) a.nodes.now i j) w.here-is (w.there-is ∙ w.parent-there.ensures)
+        ∙ meeting-other a.nodes.now l.left l.here l.there (omega arith) c.if-here-there.false (omega (arith, w.if-depth.true, c.depth-in-loop-left.ensures, c.depth-in-loop-left-2.ensures)) ∙ l.invariant
+    | else-depth w ↦
+        ap₂ (λ (i j : ℕ). meeting (l.left - 1) a.nodes.now i j) (w.here-is ∙ w.parent-here.ensures) w.there-is
+        ∙ meeting-slot a.nodes.now l.left l.here l.there (omega arith) c.if-here-there.false (omega (arith, w.if-depth.false, c.depth-in-loop-left.ensures, c.depth-in-loop-left-2.ensures)) ∙ l.invariant
+    ]
 
 pub returns : goal.returns
 returns c = let l = c.loop-left in meeting-end c.args.nodes.now l.left l.here l.there c.loop-left-test.false ∙ l.invariant
