@@ -70,8 +70,8 @@ pub fn live_advance<'a>(
     look: bool,
     most: u32,
 ) -> Progress
-    requires node_value { (node ≡ get_or workers.old worker 0) × (live image.now query.now nodes.old node ≡ true) × (predicate ≡ predicate_of image.now query.now nodes.old node) × (place ≡ goal_of image.now query.now nodes.old node) × (0 < most) }
-    requires clauses_kept { ClausesKept image.now clauses.old × Counted nodes.old children.old }
+    requires live_node { (node ≡ get_or workers.old worker 0) × (live image.now query.now nodes.old node ≡ true) × (predicate ≡ predicate_of image.now query.now nodes.old node) × (place ≡ goal_of image.now query.now nodes.old node) × (0 < most) }
+    requires tables_true { ClausesKept image.now clauses.old × Counted nodes.old children.old }
     ensures { (Progressed result most image.now query.now worker (view nodes.old cells.old trail.old array.old workers.old) (view nodes.new cells.new trail.new array.new workers.new)) × ClausesKept image.now clauses.new × Counted nodes.new children.new }
 {
     if waits(

@@ -29,7 +29,7 @@ fn take_one<'a>(
     place: usize,
     position: u32,
 ) -> Outcome
-    requires child_bound { (child < 64) × (predicate ≡ predicate_of image.now query.now nodes.old node) × (place ≡ goal_of image.now query.now nodes.old node) × (position ≡ clause_at image.now predicate (tried nodes.old node)) }
+    requires clause_found { (child < 64) × (predicate ≡ predicate_of image.now query.now nodes.old node) × (place ≡ goal_of image.now query.now nodes.old node) × (position ≡ clause_at image.now predicate (tried nodes.old node)) }
     requires counted { Counted nodes.old children.old }
     ensures { (stepped result (view nodes.new cells.new trail.new array.new workers.new) ≡ take_clause image.now query.now (view nodes.old cells.old trail.old array.old workers.old) worker node child) × Counted nodes.new children.new }
 {
@@ -71,9 +71,9 @@ pub fn take_next<'a>(
     look: bool,
     most: u32,
 ) -> Progress
-    requires node_value { (node ≡ get_or workers.old worker 0) × (live image.now query.now nodes.old node ≡ true) × (predicate ≡ predicate_of image.now query.now nodes.old node) × (place ≡ goal_of image.now query.now nodes.old node) × (0 < most) }
-    requires node_value_2 { ((eqb (sequential (predicate_word image.now predicate)) 1 && has_child nodes.old node) ≡ false) × (child ≡ lowest_free nodes.old) × (child < 64) }
-    requires clauses_kept { ClausesKept image.now clauses.old × Counted nodes.old children.old }
+    requires live_node { (node ≡ get_or workers.old worker 0) × (live image.now query.now nodes.old node ≡ true) × (predicate ≡ predicate_of image.now query.now nodes.old node) × (place ≡ goal_of image.now query.now nodes.old node) × (0 < most) }
+    requires free_child { ((eqb (sequential (predicate_word image.now predicate)) 1 && has_child nodes.old node) ≡ false) × (child ≡ lowest_free nodes.old) × (child < 64) }
+    requires tables_true { ClausesKept image.now clauses.old × Counted nodes.old children.old }
     ensures { (Progressed result most image.now query.now worker (view nodes.old cells.old trail.old array.old workers.old) (view nodes.new cells.new trail.new array.new workers.new)) × ClausesKept image.now clauses.new × Counted nodes.new children.new }
 {
     let tried = memory::tried(nodes, node);
