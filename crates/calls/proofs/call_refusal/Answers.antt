@@ -1,0 +1,30 @@
+-- `calls::call_refusal` meets its contract. Assumes nothing.
+use mathlib.Core.Bool.{Bool, cond, not}
+use mathlib.Core.Path.{sym, ap, ◌∙◌}
+use lib.Dec.{ltb}
+use borrow.Author.Rules.{rules}
+use borrow.Author.Tests.{lt-ltb, le-ltb, not-true, not-false}
+use Rattle.model.specs.Calls.{call_refusal}
+use Rattle.model.specs.Damage.{sound}
+use Rattle.model.specs.Memory.{memory}
+use Rattle.model.specs.Image.{if_legal}
+use Rattle.model.specs.declared.Verdict.TheVariants.{Legal, Refused}
+use Rattle.model.specs.declared.Verdict.{Verdict}
+use Rattle.model.specs.declared.Refusal.TheVariants.{Damaged, NoWorker}
+use Rattle.calls.proofs.call_refusal.Goals as goal
+
+pub returns-in-Refused : goal.returns-in-Refused
+unfolding call_refusal
+returns-in-Refused c = let a = c.args in ap (λ (v : Verdict). if_legal v (cond (sound a.image.now a.query.now (memory a.nodes.now a.cells.now a.trail.now a.arrays.now a.workers.now)) (cond (ltb a.worker 4) Legal (Refused NoWorker 0)) (Refused Damaged 0))) (sym c.in-Refused.is ∙ c.load_refusal.ensures)
+
+pub returns-then-not-sound : goal.returns-then-not-sound
+unfolding call_refusal
+returns-then-not-sound c = let a = c.args in ap (λ (b : Bool). cond b (cond (ltb a.worker 4) Legal (Refused NoWorker 0)) (Refused Damaged 0)) (sym (not-true c.sound.result (ap not c.if-not-sound.true)) ∙ c.sound.ensures) ∙ ap (λ (v : Verdict). if_legal v (cond (sound a.image.now a.query.now (memory a.nodes.now a.cells.now a.trail.now a.arrays.now a.workers.now)) (cond (ltb a.worker 4) Legal (Refused NoWorker 0)) (Refused Damaged 0))) (sym c.in_default.is ∙ c.load_refusal.ensures)
+
+pub returns-then-worker-ge4 : goal.returns-then-worker-ge4
+unfolding call_refusal
+returns-then-worker-ge4 c = let a = c.args in ap (λ (b : Bool). cond b Legal (Refused NoWorker 0)) (sym (le-ltb a.worker 4 c.if-worker-ge4.true)) ∙ ap (λ (b : Bool). cond b (cond (ltb a.worker 4) Legal (Refused NoWorker 0)) (Refused Damaged 0)) (sym (not-false c.sound.result (ap not c.if-not-sound.false)) ∙ c.sound.ensures) ∙ ap (λ (v : Verdict). if_legal v (cond (sound a.image.now a.query.now (memory a.nodes.now a.cells.now a.trail.now a.arrays.now a.workers.now)) (cond (ltb a.worker 4) Legal (Refused NoWorker 0)) (Refused Damaged 0))) (sym c.in_default.is ∙ c.load_refusal.ensures)
+
+pub returns : goal.returns
+unfolding call_refusal
+returns c = let a = c.args in ap (λ (b : Bool). cond b Legal (Refused NoWorker 0)) (sym (lt-ltb a.worker 4 c.if-worker-ge4.false)) ∙ ap (λ (b : Bool). cond b (cond (ltb a.worker 4) Legal (Refused NoWorker 0)) (Refused Damaged 0)) (sym (not-false c.sound.result (ap not c.if-not-sound.false)) ∙ c.sound.ensures) ∙ ap (λ (v : Verdict). if_legal v (cond (sound a.image.now a.query.now (memory a.nodes.now a.cells.now a.trail.now a.arrays.now a.workers.now)) (cond (ltb a.worker 4) Legal (Refused NoWorker 0)) (Refused Damaged 0))) (sym c.in_default.is ∙ c.load_refusal.ensures)
