@@ -7,11 +7,9 @@ use native.Mathlib.Omega.{arith}
 use lib.ListN.{get_or, take, drop}
 use lib.Seq.{get_or-take, get_or-drop}
 use borrow.Author.Tests.{eq-eqb, ne_eqb}
-use Rattle.model.specs.declared.Kind.TheVariants.{Predicate, Clause}
-use Rattle.model.specs.Fields.{widths_of, clause_length, first_clause}
+use Rattle.model.specs.Fields.{clause_length}
 use Rattle.model.specs.Decoding.{clause_next}
 use Rattle.model.specs.Damage.{among_clauses}
-use Rattle.words.specs.FieldLaws.{field_lt}
 
 module _ (image : List ℕ) (position : ℕ) where
   pub among-end : (left at : ℕ) → left ≤ 0 → false ≡ among_clauses left image at position

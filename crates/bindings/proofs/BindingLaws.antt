@@ -2,12 +2,11 @@
 use mathlib.Core.Path.{◌≡◌, refl, sym, ap}
 use mathlib.Core.Bool.{Bool, true, false}
 use mathlib.Core.List.{List}
-use Prim.Native.Nat.{ℕ, zero, suc, ◌+◌, ◌-◌, ◌*◌, ◌≤◌, ◌<◌}
+use Prim.Native.Nat.{ℕ, zero, suc, ◌+◌, ◌-◌, ◌≤◌, ◌<◌}
 use native.Mathlib.Omega.{arith}
 use lib.Dec.{eqb}
-use lib.ListN.{get_or}
 use borrow.Author.Tests.{eq-eqb, ne_eqb, le-leb, lt-leb}
-use Rattle.model.specs.Memory.{parent, entries, own_variables, base}
+use Rattle.model.specs.Memory.{parent, entries, base}
 use Rattle.model.specs.Damage.{each, on_path, owner_of, not_among, not_above}
 
 -- a test of so many numbers from one on, whatever it tests: none is left, the next fails, or it holds and the others are left

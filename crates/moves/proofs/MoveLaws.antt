@@ -7,12 +7,9 @@ use native.Mathlib.Omega.{arith}
 use lib.Dec.{eqb}
 use lib.ListN.{get_or, set, take, drop}
 use borrow.Author.Tests.{eq-eqb, ne_eqb, lt-ltb, le-ltb}
-use Rattle.model.specs.declared.Kind.TheVariants.{Node0}
-use Rattle.model.specs.Fields.{widths_of}
 use Rattle.model.specs.Memory.{memory, parent, depth, entries, cell_of, with_array}
 use Rattle.model.specs.Steps.{undone}
 use Rattle.model.specs.Moves.{meeting, common_ancestor, Leg, leg, installed, climbed, legs, moved, move}
-use Rattle.words.specs.FieldLaws.{field_lt}
 use Rattle.memory.proofs.FieldBounds.{entries-lt}
 
 module _ (nodes : List ℕ) where

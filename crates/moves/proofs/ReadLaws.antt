@@ -10,16 +10,15 @@ use lib.Dec.{eqb}
 use lib.ListN.{length, get_or, set, take, drop}
 use lib.Seq.{drop-cons, take-suc-set, length-take-le}
 use borrow.Author.Tests.{eq-eqb, ne_eqb}
-use Rattle.model.specs.declared.Kind.TheVariants.{Clause, Con, Var}
+use Rattle.model.specs.declared.Kind.TheVariants.{Con, Var}
 use Rattle.model.specs.declared.VarNo.{VarNo}
 use Rattle.model.specs.declared.CellAddr.{CellAddr}
 use Rattle.model.specs.declared.Found.{Found}
 use Rattle.model.specs.declared.Found.TheVariants.{Unbound, Constant}
-use Rattle.model.specs.Fields.{widths_of, variables}
+use Rattle.model.specs.Fields.{variables}
 use Rattle.model.specs.Memory.{memory, word_of, cell_of, array_of}
 use Rattle.model.specs.Terms.{dereference}
 use Rattle.model.specs.Moves.{place_of, with_number, answer_word, seen_with_found, answer_from, answer}
-use Rattle.words.specs.FieldLaws.{field_lt}
 use Rattle.moves.proofs.LoadLaws.{written, written-front}
 
 -- a place further on in the list, and where the number is looked for from there

@@ -1,13 +1,7 @@
 -- `audit::among_clauses` meets its contract. The loop's invariant: what is left to do gives the whole. Assumes nothing.
-use mathlib.Core.Path.{◌≡◌, refl, ap, ◌∙◌}
-use Prim.Native.Nat.{ℕ, ◌+◌, ◌-◌, ◌*◌, ◌≤◌}
-use native.Mathlib.Omega.{arith}
-use lib.ListN.{get_or}
-use borrow.Author.Rules.{rules}
+use mathlib.Core.Path.{◌≡◌}
+use Prim.Native.Nat.{◌+◌, ◌*◌, ◌≤◌}
 use Rattle.model.specs.Damage.{among_clauses}
-use Rattle.model.specs.Fields.{clause_length}
-use Rattle.memory.proofs.FieldBounds.{clause_length-lt}
-use Rattle.audit.proofs.AuditLaws.{among-end, among-hit, among-miss}
 use Rattle.audit.proofs.among_clauses.Given as goal
 
 abbrev pub invariant-loop-left : goal.invariant-loop-left

@@ -4,10 +4,9 @@ use mathlib.Core.Path.{ap, ◌∙◌}
 use Prim.Native.Nat.{ℕ}
 use native.Mathlib.Omega.{arith}
 use lib.ListN.{replicate}
-use borrow.Author.Rules.{rules}
 use Rattle.model.specs.Damage.{path_array, same_words}
 use Rattle.model.specs.Moves.{Leg, installed, climbed}
-use Rattle.model.specs.Memory.{depth, array_of}
+use Rattle.model.specs.Memory.{array_of}
 use Rattle.memory.proofs.FieldBounds.{depth-lt}
 use Rattle.audit.proofs.array_sound.Goals as goal
 

@@ -3,10 +3,9 @@ use mathlib.Core.Path.{ap, ap₂, ◌∙◌}
 use Prim.Native.Nat.{ℕ, ◌+◌}
 use native.Mathlib.Omega.{arith}
 use lib.Dec.{eqb}
-use borrow.Author.Rules.{rules}
 use borrow.Author.Tests.{eq-eqb, ne_eqb}
 use Rattle.model.specs.Damage.{base_sound}
-use Rattle.model.specs.Memory.{parent, own_variables, base}
+use Rattle.model.specs.Memory.{own_variables, base}
 use Rattle.memory.proofs.FieldBounds.{own_variables-lt, base-lt}
 use Rattle.audit.proofs.base_sound.Goals as goal
 

@@ -1,6 +1,5 @@
 -- `audit::called_word` meets its contract. Assumes nothing.
 use mathlib.Core.Path.{ap, ◌∙◌}
-use borrow.Author.Rules.{rules}
 use Rattle.model.specs.Image.{predicate_word}
 use Rattle.audit.proofs.called_word.Goals as goal
 

@@ -2,9 +2,7 @@
 use mathlib.Core.Path.{sym, ◌∙◌}
 use Prim.Native.Nat.{◌*◌}
 use native.Mathlib.Nat.{add-zero}
-use borrow.Author.Rules.{rules}
-use borrow.Author.Tests.{not-true, not-false}
-use Rattle.model.specs.Damage.{zeros, free_zero}
+use Rattle.model.specs.Damage.{free_zero}
 use Rattle.audit.proofs.free_zero.Goals as goal
 
 pub returns-then-not-zeros : goal.returns-then-not-zeros

@@ -1,6 +1,5 @@
 -- `audit::goal_sound` meets its contract. Assumes nothing.
 use mathlib.Core.Path.{sym, ap, ◌∙◌}
-use borrow.Author.Rules.{rules}
 use Rattle.model.specs.Damage.{goal_sound}
 use Rattle.audit.proofs.goal_sound.Goals as goal
 

@@ -1,7 +1,6 @@
 -- `audit::node_sound` meets its contract. Assumes nothing.
 use mathlib.Core.Path.{sym, ap, ◌∙◌}
-use borrow.Author.Rules.{rules}
-use borrow.Author.Tests.{eq-eqb, ne_eqb, not-true, not-false}
+use borrow.Author.Tests.{eq-eqb, ne_eqb}
 use Rattle.model.specs.Damage.{clause_of, goal_sound, node_sound}
 use Rattle.model.specs.Memory.{own_variables}
 use Rattle.model.specs.Fields.{variables}

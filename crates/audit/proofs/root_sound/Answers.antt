@@ -2,10 +2,9 @@
 use mathlib.Core.Path.{sym, ap, ◌∙◌}
 use Prim.Native.Nat.{ℕ}
 use lib.Dec.{eqb}
-use borrow.Author.Rules.{rules}
 use borrow.Author.Tests.{eq-eqb, ne_eqb}
 use Rattle.model.specs.Damage.{root_sound}
-use Rattle.model.specs.Memory.{used, parent, depth, base, clause_position}
+use Rattle.model.specs.Memory.{used, parent, depth, clause_position}
 use Rattle.audit.proofs.root_sound.Goals as goal
 
 pub returns-then-used-ne1 : goal.returns-then-used-ne1

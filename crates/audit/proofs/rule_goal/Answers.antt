@@ -2,11 +2,10 @@
 use mathlib.Core.Path.{ap, ap₂, ◌∙◌}
 use Prim.Native.Nat.{ℕ}
 use native.Mathlib.Omega.{arith}
-use borrow.Author.Rules.{rules}
 use borrow.Author.Tests.{eq-eqb, ne_eqb}
 use Rattle.model.specs.Damage.{clause_of, rule_goal}
 use Rattle.model.specs.Goals.{child_goal}
-use Rattle.model.specs.Memory.{parent, frame, goal_index}
+use Rattle.model.specs.Memory.{frame, goal_index}
 use Rattle.model.specs.Fields.{goal_count}
 use Rattle.memory.proofs.FieldBounds.{goal_index-lt}
 use Rattle.audit.proofs.rule_goal.Goals as goal

@@ -1,14 +1,8 @@
 -- `audit::same_words` meets its contract. The loop's invariant: what is left to do gives the whole. Assumes nothing.
-use mathlib.Core.Path.{◌≡◌, refl, sym, ◌∙◌}
+use mathlib.Core.Path.{◌≡◌}
 use Prim.Native.Nat.{◌+◌}
-use native.Mathlib.Omega.{arith}
-use lib.ListN.{get_or, take, drop}
-use lib.Dec.{eqb}
-use borrow.Author.Rules.{rules}
-use borrow.Author.Tests.{eq-eqb, ne_eqb}
+use lib.ListN.{take, drop}
 use Rattle.model.specs.Damage.{same_words}
-use Rattle.bindings.proofs.BindingLaws.{each-end, each-fail, each_turn}
-use Rattle.audit.proofs.AuditLaws.{array_at}
 use Rattle.audit.proofs.same_words.Given as goal
 
 abbrev pub invariant-loop-left : goal.invariant-loop-left

@@ -1,8 +1,7 @@
 -- `audit::slot_linked` meets its contract. Assumes nothing.
 use mathlib.Core.Path.{sym, ◌∙◌}
-use borrow.Author.Rules.{rules}
-use borrow.Author.Tests.{eq-eqb, ne_eqb, not-true, not-false}
-use Rattle.model.specs.Damage.{linked, slot_linked}
+use borrow.Author.Tests.{eq-eqb, ne_eqb}
+use Rattle.model.specs.Damage.{slot_linked}
 use Rattle.model.specs.Memory.{used}
 use Rattle.audit.proofs.slot_linked.Goals as goal
 

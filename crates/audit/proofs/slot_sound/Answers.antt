@@ -1,7 +1,6 @@
 -- `audit::slot_sound` meets its contract. Assumes nothing.
 use mathlib.Core.Path.{sym, ◌∙◌}
-use borrow.Author.Rules.{rules}
-use borrow.Author.Tests.{eq-eqb, ne_eqb, not-true, not-false}
+use borrow.Author.Tests.{eq-eqb, ne_eqb}
 use Rattle.model.specs.Damage.{slot_sound}
 use Rattle.model.specs.Memory.{used}
 use Rattle.audit.proofs.slot_sound.Goals as goal

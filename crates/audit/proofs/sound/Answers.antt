@@ -1,7 +1,5 @@
 -- `audit::sound` meets its contract. Assumes nothing.
 use mathlib.Core.Path.{sym, ◌∙◌}
-use borrow.Author.Rules.{rules}
-use borrow.Author.Tests.{not-true, not-false}
 use Rattle.model.specs.Damage.{sound}
 use Rattle.audit.proofs.sound.Goals as goal
 

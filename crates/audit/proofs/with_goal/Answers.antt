@@ -2,10 +2,9 @@
 use mathlib.Core.Path.{sym, ap, ap₂, ◌∙◌}
 use Prim.Native.Nat.{ℕ}
 use lib.Dec.{leb}
-use borrow.Author.Rules.{rules}
 use borrow.Author.Tests.{eq-eqb, ne_eqb}
 use Rattle.model.specs.Damage.{with_goal}
-use Rattle.model.specs.Memory.{has_goal, frame, goal_index, tried}
+use Rattle.model.specs.Memory.{has_goal, frame, goal_index}
 use Rattle.model.specs.Fields.{clause_count}
 use Rattle.audit.proofs.with_goal.Goals as goal
 

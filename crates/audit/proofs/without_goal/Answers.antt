@@ -2,10 +2,9 @@
 use mathlib.Core.Path.{sym, ap, ◌∙◌}
 use Prim.Native.Nat.{ℕ}
 use lib.Dec.{eqb}
-use borrow.Author.Rules.{rules}
 use borrow.Author.Tests.{eq-eqb, ne_eqb}
 use Rattle.model.specs.Damage.{without_goal}
-use Rattle.model.specs.Memory.{has_goal, frame, goal_index, tried}
+use Rattle.model.specs.Memory.{has_goal, frame, goal_index}
 use Rattle.audit.proofs.without_goal.Goals as goal
 
 pub returns-then-has_goal-ne0 : goal.returns-then-has_goal-ne0

@@ -1,11 +1,7 @@
 -- `bindings::cells_sound` meets its contract. The loop's invariant: what is left to do gives the whole. Assumes nothing.
-use mathlib.Core.Path.{◌≡◌, refl, sym, ◌∙◌}
+use mathlib.Core.Path.{◌≡◌}
 use Prim.Native.Nat.{◌+◌}
-use native.Mathlib.Omega.{arith}
-use borrow.Author.Rules.{rules}
-use borrow.Author.Tests.{not-true, not-false}
 use Rattle.model.specs.Damage.{each, cell_sound}
-use Rattle.bindings.proofs.BindingLaws.{each-end, each-fail, each_turn}
 use Rattle.bindings.proofs.cells_sound.Given as goal
 
 abbrev pub invariant-loop-left : goal.invariant-loop-left

@@ -1,13 +1,8 @@
 -- `bindings::entries_sound` meets its contract. The loop's invariant: what is left to do gives the whole. Assumes nothing.
-use mathlib.Core.Path.{◌≡◌, sym, ap, ◌∙◌}
-use Prim.Native.Nat.{ℕ, ◌+◌}
-use native.Mathlib.Omega.{arith}
-use borrow.Author.Rules.{rules}
-use borrow.Author.Tests.{not-true, not-false}
+use mathlib.Core.Path.{◌≡◌}
+use Prim.Native.Nat.{◌+◌}
 use Rattle.model.specs.Damage.{each, entry_sound}
 use Rattle.model.specs.Memory.{entries}
-use Rattle.memory.proofs.FieldBounds.{entries-lt}
-use Rattle.bindings.proofs.BindingLaws.{each-end, each-fail, each_turn}
 use Rattle.bindings.proofs.entries_sound.Given as goal
 
 abbrev pub invariant-loop-left : goal.invariant-loop-left

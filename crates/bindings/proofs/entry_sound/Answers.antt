@@ -3,10 +3,9 @@ use mathlib.Core.Path.{sym, ap, ap₂, ◌∙◌}
 use Prim.Native.Nat.{ℕ}
 use native.Mathlib.Omega.{arith}
 use lib.ListN.{get_or}
-use borrow.Author.Rules.{rules}
-use borrow.Author.Tests.{lt-ltb, le-ltb, not-true, not-false}
+use borrow.Author.Tests.{lt-ltb, le-ltb}
 use Rattle.model.specs.Damage.{owner_of, value_sound, not_among, not_above, vno_at, entry_sound}
-use Rattle.model.specs.Memory.{depth, base, number_at}
+use Rattle.model.specs.Memory.{base, number_at}
 use Rattle.bindings.proofs.entry_sound.Goals as goal
 
 pub returns-then-base-number : goal.returns-then-base-number

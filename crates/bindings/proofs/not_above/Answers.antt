@@ -1,11 +1,9 @@
 -- `bindings::not_above` meets its contract. The loop's invariant: what is left to do gives the whole. Assumes nothing.
-use mathlib.Core.Path.{◌≡◌, refl, sym, ap, ◌∙◌}
+use mathlib.Core.Path.{refl, sym, ap, ◌∙◌}
 use Prim.Native.Nat.{ℕ, ◌-◌}
 use native.Mathlib.Omega.{arith}
-use borrow.Author.Rules.{rules}
-use borrow.Author.Tests.{not-true, not-false}
 use Rattle.model.specs.Damage.{not_among, not_above}
-use Rattle.model.specs.Memory.{parent, entries}
+use Rattle.model.specs.Memory.{entries}
 use Rattle.bindings.proofs.BindingLaws.{not_above-end, not_above-fail, not_above-turn}
 use Rattle.bindings.proofs.not_above.Goals as goal
 

@@ -1,10 +1,8 @@
 -- `bindings::on_path` meets its contract. The loop's invariant: what is left to do gives the whole. Assumes nothing.
-use mathlib.Core.Path.{◌≡◌, refl, ap, ◌∙◌}
+use mathlib.Core.Path.{refl, ap, ◌∙◌}
 use Prim.Native.Nat.{ℕ, ◌-◌}
 use native.Mathlib.Omega.{arith}
-use borrow.Author.Rules.{rules}
 use Rattle.model.specs.Damage.{on_path}
-use Rattle.model.specs.Memory.{parent}
 use Rattle.bindings.proofs.BindingLaws.{on_path-end, on_path-hit, on_path-miss}
 use Rattle.bindings.proofs.on_path.Goals as goal
 

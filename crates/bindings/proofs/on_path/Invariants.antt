@@ -1,11 +1,6 @@
 -- `bindings::on_path` meets its contract. The loop's invariant: what is left to do gives the whole. Assumes nothing.
-use mathlib.Core.Path.{◌≡◌, refl, ap, ◌∙◌}
-use Prim.Native.Nat.{ℕ, ◌-◌}
-use native.Mathlib.Omega.{arith}
-use borrow.Author.Rules.{rules}
+use mathlib.Core.Path.{◌≡◌}
 use Rattle.model.specs.Damage.{on_path}
-use Rattle.model.specs.Memory.{parent}
-use Rattle.bindings.proofs.BindingLaws.{on_path-end, on_path-hit, on_path-miss}
 use Rattle.bindings.proofs.on_path.Given as goal
 
 abbrev pub invariant-loop-left : goal.invariant-loop-left

@@ -1,11 +1,6 @@
 -- `bindings::owner_of` meets its contract. The loop's invariant: what is left to do gives the whole. Assumes nothing.
-use mathlib.Core.Path.{◌≡◌, refl, ap, ◌∙◌}
-use Prim.Native.Nat.{ℕ, ◌-◌}
-use native.Mathlib.Omega.{arith}
-use borrow.Author.Rules.{rules}
+use mathlib.Core.Path.{◌≡◌}
 use Rattle.model.specs.Damage.{owner_of}
-use Rattle.model.specs.Memory.{parent, base}
-use Rattle.bindings.proofs.BindingLaws.{owner_of-end, owner_of-hit, owner_of-miss}
 use Rattle.bindings.proofs.owner_of.Given as goal
 
 abbrev pub invariant-loop-left : goal.invariant-loop-left

@@ -2,10 +2,9 @@
 use mathlib.Core.Path.{ap, ◌∙◌}
 use Prim.Native.Nat.{ℕ, ◌+◌, ◌/◌, ◌%◌}
 use native.Mathlib.Omega.{arith}
-use borrow.Author.Rules.{rules}
 use borrow.Author.Tests.{lt-ltb, le-ltb}
 use Rattle.model.specs.Damage.{on_path, ref_sound}
-use Rattle.model.specs.Memory.{depth, own_variables, base}
+use Rattle.model.specs.Memory.{own_variables, base}
 use Rattle.memory.proofs.FieldBounds.{base-lt}
 use Rattle.bindings.proofs.ref_sound.Goals as goal
 

@@ -4,10 +4,8 @@ use mathlib.Core.Path.{sym, ap, ◌∙◌}
 use Prim.Native.Nat.{ℕ, ◌-◌, ◌*◌}
 use native.Mathlib.Omega.{arith}
 use lib.Dec.{eqb}
-use borrow.Author.Rules.{rules}
-use borrow.Author.Tests.{not-true, not-false}
 use Rattle.model.specs.Damage.{zeros, trail_sound}
-use Rattle.model.specs.Memory.{entries, number_at}
+use Rattle.model.specs.Memory.{number_at}
 use Rattle.memory.proofs.FieldBounds.{entries-lt}
 use Rattle.bindings.proofs.trail_sound.Goals as goal
 

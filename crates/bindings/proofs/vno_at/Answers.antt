@@ -3,9 +3,7 @@ use mathlib.Core.Path.{ap, ap₂, ◌∙◌}
 use Prim.Native.Nat.{ℕ, ◌+◌, ◌-◌, ◌*◌}
 use lib.ListN.{get_or}
 use lib.Dec.{eqb}
-use borrow.Author.Rules.{rules}
 use Rattle.model.specs.Damage.{vno_at}
-use Rattle.model.specs.Memory.{base}
 use Rattle.bindings.proofs.vno_at.Goals as goal
 
 pub returns : goal.returns

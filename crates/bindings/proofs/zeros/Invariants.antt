@@ -1,13 +1,7 @@
 -- `bindings::zeros` meets its contract. The loop's invariant: what is left to do gives the whole. Assumes nothing.
-use mathlib.Core.Path.{◌≡◌, refl, sym, ◌∙◌}
+use mathlib.Core.Path.{◌≡◌}
 use Prim.Native.Nat.{◌+◌}
-use native.Mathlib.Omega.{arith}
-use lib.ListN.{get_or}
-use lib.Dec.{eqb}
-use borrow.Author.Rules.{rules}
-use borrow.Author.Tests.{eq-eqb, ne_eqb}
 use Rattle.model.specs.Damage.{zeros}
-use Rattle.bindings.proofs.BindingLaws.{each-end, each-fail, each_turn}
 use Rattle.bindings.proofs.zeros.Given as goal
 
 abbrev pub invariant-loop-left : goal.invariant-loop-left

@@ -2,7 +2,6 @@
 use mathlib.Core.Bool.{Bool, cond, not}
 use mathlib.Core.Path.{sym, ap, ◌∙◌}
 use lib.Dec.{ltb}
-use borrow.Author.Rules.{rules}
 use borrow.Author.Tests.{lt-ltb, le-ltb, not-true, not-false}
 use Rattle.model.specs.Calls.{call_refusal}
 use Rattle.model.specs.Damage.{sound}

@@ -1,6 +1,5 @@
 -- `calls::load` meets its contract. Assumes nothing.
 use mathlib.Core.Path.{sym, ap, ◌∙◌}
-use borrow.Author.Rules.{rules}
 use Rattle.model.specs.Calls.{loaded_to, load_if, load_call}
 use Rattle.model.specs.Memory.{memory}
 use Rattle.model.specs.declared.Verdict.TheVariants.{Legal}

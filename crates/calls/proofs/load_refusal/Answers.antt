@@ -1,7 +1,6 @@
 -- `calls::load_refusal` meets its contract. Assumes nothing.
 use mathlib.Core.Bool.{Bool, cond, not}
 use mathlib.Core.Path.{sym, ap, ◌∙◌}
-use borrow.Author.Rules.{rules}
 use borrow.Author.Tests.{not-true, not-false}
 use Rattle.model.specs.Calls.{load_refusal}
 use Rattle.model.specs.Image.{check_query}

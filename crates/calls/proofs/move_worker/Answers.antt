@@ -1,6 +1,5 @@
 -- `calls::move_worker` meets its contract. Assumes nothing.
 use mathlib.Core.Path.{sym, ap, ◌∙◌}
-use borrow.Author.Rules.{rules}
 use Rattle.model.specs.Calls.{move_if, move_call}
 use Rattle.model.specs.Memory.{memory}
 use Rattle.model.specs.declared.Verdict.{Verdict}

@@ -1,7 +1,6 @@
 -- `calls::read` meets its contract. Assumes nothing.
 use mathlib.Core.Path.{sym, ap, ◌∙◌}
 use lib.ListN.{length}
-use borrow.Author.Rules.{rules}
 use Rattle.model.specs.Calls.{read_if, read_call}
 use Rattle.model.specs.Memory.{memory}
 use Rattle.model.specs.declared.Verdict.{Verdict}

@@ -4,7 +4,6 @@ use mathlib.Core.Path.{sym, ap, ◌∙◌}
 use native.Mathlib.Omega.{arith}
 use lib.ListN.{get_or}
 use lib.Dec.{eqb, leb}
-use borrow.Author.Rules.{rules}
 use borrow.Author.Tests.{eq-eqb, ne_eqb, le-leb, lt-leb}
 use Rattle.model.specs.Calls.{read_refusal}
 use Rattle.model.specs.Memory.{has_goal}

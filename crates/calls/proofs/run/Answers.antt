@@ -3,7 +3,6 @@ use mathlib.Core.Path.{sym, ap, ◌∙◌}
 use Prim.Native.Nat.{◌+◌, ◌-◌, ◌*◌}
 use native.Mathlib.Omega.{arith}
 use native.Mathlib.Nat.{add-sub_cancel_left}
-use borrow.Author.Rules.{rules}
 use Rattle.model.specs.Calls.{run_if, run_call}
 use Rattle.model.specs.Memory.{memory}
 use Rattle.model.specs.declared.Verdict.{Verdict}

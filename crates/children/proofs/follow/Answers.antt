@@ -5,7 +5,6 @@ use native.Mathlib.Omega.{arith}
 use lib.ListN.{get_or}
 use Rattle.children.specs.Children.{gained}
 use Rattle.children.proofs.ChildLaws.{followed-root, followed-past, followed-slot}
-use borrow.Author.Rules.{rules}
 use Rattle.children.proofs.follow.Goals as goal
 
 pub returns-then-slot-eq0 : goal.returns-then-slot-eq0

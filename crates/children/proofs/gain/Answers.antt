@@ -1,7 +1,6 @@
 -- `children::gain` meets its contract, by the law of each way through it. Assumes nothing.
 use mathlib.Core.Path.{◌∙◌}
 use Rattle.children.proofs.ChildLaws.{gained-free, gained-full, gained-one}
-use borrow.Author.Rules.{rules}
 use Rattle.children.proofs.gain.Goals as goal
 
 pub returns-then-read-ne1 : goal.returns-then-read-ne1

@@ -4,7 +4,6 @@ use mathlib.Core.Bool.{not}
 use Prim.Native.Nat.{ℕ}
 use lib.Dec.{eqb}
 use Rattle.children.proofs.ChildLaws.{child_from-counts}
-use borrow.Author.Rules.{rules}
 use Rattle.children.proofs.has_child.Goals as goal
 
 pub returns-then-at-children : goal.returns-then-at-children

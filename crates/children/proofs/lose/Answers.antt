@@ -1,7 +1,6 @@
 -- `children::lose` meets its contract, by the law of each way through it. Assumes nothing.
 use mathlib.Core.Path.{◌∙◌}
 use Rattle.children.proofs.ChildLaws.{lost-free, lost-none, lost-one}
-use borrow.Author.Rules.{rules}
 use Rattle.children.proofs.lose.Goals as goal
 
 pub returns-then-read-ne1 : goal.returns-then-read-ne1

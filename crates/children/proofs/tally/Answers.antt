@@ -1,10 +1,7 @@
 -- `children::tally` meets its contract. The loop's invariant: the slots passed are counted. Assumes nothing.
-use mathlib.Core.Path.{◌≡◌, ap, ◌∙◌}
-use Prim.Native.Nat.{ℕ, ◌-◌, ◌≤◌, ◌<◌}
+use mathlib.Core.Path.{ap, ◌∙◌}
 use native.Mathlib.Omega.{arith}
-use lib.ListN.{length, get_or}
-use borrow.Author.Rules.{rules}
-use Rattle.children.specs.Children.{children_from, gained}
+use Rattle.children.specs.Children.{gained}
 use Rattle.children.proofs.ChildLaws.{tally-start, tally-turn, tally-end}
 use Rattle.children.proofs.tally.Goals as goal
 

@@ -1,11 +1,8 @@
 -- `children::tally` meets its contract. The loop's invariant: the slots passed are counted. Assumes nothing.
-use mathlib.Core.Path.{◌≡◌, ap, ◌∙◌}
+use mathlib.Core.Path.{◌≡◌}
 use Prim.Native.Nat.{ℕ, ◌-◌, ◌≤◌, ◌<◌}
-use native.Mathlib.Omega.{arith}
 use lib.ListN.{length, get_or}
-use borrow.Author.Rules.{rules}
-use Rattle.children.specs.Children.{children_from, gained}
-use Rattle.children.proofs.ChildLaws.{tally-start, tally-turn, tally-end}
+use Rattle.children.specs.Children.{children_from}
 use Rattle.children.proofs.tally.Given as goal
 
 abbrev pub invariant-loop-slot : goal.invariant-loop-slot

@@ -1,6 +1,5 @@
 -- `engine::last_count` meets its contract. Assumes nothing.
 use mathlib.Core.Path.{sym, ap}
-use borrow.Author.Rules.{rules}
 use Rattle.engine.specs.Runs.{last_count}
 use Rattle.engine.proofs.last_count.Goals as goal
 

@@ -1,5 +1,4 @@
 -- `engine::run` meets its contract. Assumes nothing.
-use borrow.Author.Rules.{rules}
 use Rattle.turns.proofs.HandLaws.{begun-at-hand}
 use Rattle.engine.proofs.run.Goals as goal
 

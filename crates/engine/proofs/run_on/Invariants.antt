@@ -1,13 +1,9 @@
 -- `engine::run_on` meets its contract. The loop's invariant: what is left to do gives the whole, and what is at hand is true. Assumes nothing.
-use mathlib.Core.Path.{◌≡◌, refl, sym, ap, ◌∙◌}
-use Prim.Native.Nat.{ℕ, ◌+◌}
-use native.Mathlib.Omega.{arith}
+use mathlib.Core.Path.{◌≡◌}
+use Prim.Native.Nat.{◌+◌}
 use lib.ListN.{length}
-use borrow.Author.Rules.{rules}
-use Rattle.model.specs.Steps.{view, ran, run_from}
+use Rattle.model.specs.Steps.{view, run_from}
 use Rattle.turns.specs.Hand.{AtHand}
-use Rattle.engine.proofs.StopLaws.{run_from-end, run_from-stops, run_from-more}
-use Rattle.engine.proofs.RunLaws.{progress-some, progress-run, progress-did}
 use Rattle.engine.proofs.run_on.Given as goal
 
 abbrev pub invariant-loop-left : goal.invariant-loop-left

@@ -1,6 +1,5 @@
 -- `engine::stops` meets its contract. Assumes nothing.
 use mathlib.Core.Path.{sym, ap}
-use borrow.Author.Rules.{rules}
 use Rattle.engine.specs.Runs.{stops}
 use Rattle.engine.proofs.stops.Goals as goal
 

@@ -1,6 +1,5 @@
 -- `extension::arrival` meets its contract. Assumes nothing.
 use mathlib.Core.Path.{sym, ap}
-use borrow.Author.Rules.{rules}
 use Rattle.model.specs.Steps.{arrival}
 use Rattle.extension.proofs.arrival.Goals as goal
 

@@ -1,6 +1,5 @@
 -- `extension::fail` meets its contract. Assumes nothing.
 use mathlib.Core.Path.{ap, ◌∙◌}
-use borrow.Author.Rules.{rules}
 use Rattle.model.specs.Fields.{variables}
 use Rattle.extension.proofs.TakeLaws.{failure-from}
 use Rattle.extension.proofs.fail.Goals as goal

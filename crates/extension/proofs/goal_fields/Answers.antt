@@ -1,6 +1,5 @@
 -- `extension::goal_fields` meets its contract. Assumes nothing.
 use mathlib.Core.Path.{sym, ap, ◌∙◌}
-use borrow.Author.Rules.{rules}
 use Rattle.model.specs.Steps.{goal_fields}
 use Rattle.extension.proofs.goal_fields.Goals as goal
 

@@ -1,6 +1,5 @@
 -- `extension::grow` meets its contract. Assumes nothing.
 use native.Mathlib.Omega.{arith}
-use borrow.Author.Rules.{rules}
 use Rattle.model.specs.Steps.{grown}
 use Rattle.memory.proofs.FieldBounds.{depth-lt, own_variables-lt, base-lt}
 use Rattle.extension.proofs.grow.Goals as goal

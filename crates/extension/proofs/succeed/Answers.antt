@@ -1,7 +1,6 @@
 -- `extension::succeed` meets its contract. Assumes nothing.
 use mathlib.Core.Path.{ap, ◌∙◌}
 use native.Mathlib.Omega.{arith}
-use borrow.Author.Rules.{rules}
 use Rattle.model.specs.Fields.{variables, goal_count}
 use Rattle.memory.proofs.FieldBounds.{goal_index-lt}
 use Rattle.extension.proofs.TakeLaws.{success-from}

@@ -1,7 +1,6 @@
 -- `extension::take_clause` meets its contract. Assumes nothing.
 use Prim.Native.Nat.{◌<◌}
 use native.Mathlib.Omega.{arith}
-use borrow.Author.Rules.{rules}
 use Rattle.extension.proofs.TakeLaws.{head_store-count, take-failed, take-succeeded}
 use Rattle.extension.proofs.take_clause.Goals as goal
 

@@ -1,7 +1,6 @@
 -- `extension::try_head` meets its contract. Assumes nothing.
 use mathlib.Core.Path.{ap, ◌∙◌}
 use native.Mathlib.Omega.{arith}
-use borrow.Author.Rules.{rules}
 use Rattle.model.specs.Fields.{arity, variables}
 use Rattle.goals.proofs.PlaceLaws.{goal_of-lt}
 use Rattle.memory.proofs.FieldBounds.{arity-lt, variables-lt, own_variables-lt, base-lt, frame-lt}

@@ -1,7 +1,6 @@
 -- `goals::child_goal` meets its contract. Assumes nothing.
 use mathlib.Core.Path.{ap, ◌∙◌}
 use Prim.Native.Nat.{ℕ}
-use borrow.Author.Rules.{rules}
 use borrow.Author.Tests.{eq-eqb, ne_eqb}
 use Rattle.model.specs.Goals.{next_goal, child_goal}
 use Rattle.goals.proofs.child_goal.Goals as goal

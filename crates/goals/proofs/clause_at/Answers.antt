@@ -1,7 +1,6 @@
 -- `goals::clause_at` meets its contract. Assumes nothing.
 use mathlib.Core.Path.{ap, ◌∙◌}
 use Prim.Native.Nat.{ℕ}
-use borrow.Author.Rules.{rules}
 use Rattle.model.specs.Decoding.{clause_from, clause_at}
 use Rattle.model.specs.Fields.{first_clause}
 use Rattle.goals.proofs.clause_at.Goals as goal

@@ -1,8 +1,7 @@
 -- `goals::clause_from` meets its contract. The loop's invariant: what is left to do gives the whole. Assumes nothing.
-use mathlib.Core.Path.{◌≡◌, refl, ap, ◌∙◌}
-use Prim.Native.Nat.{ℕ, ◌+◌, ◌-◌, ◌*◌, ◌≤◌}
+use mathlib.Core.Path.{refl, ap, ◌∙◌}
+use Prim.Native.Nat.{ℕ, ◌+◌, ◌-◌}
 use native.Mathlib.Omega.{arith}
-use borrow.Author.Rules.{rules}
 use Rattle.model.specs.Decoding.{clause_from}
 use Rattle.model.specs.Fields.{clause_length}
 use Rattle.goals.proofs.PlaceLaws.{clause_from-end, clause_from-turn, clause_next-le}

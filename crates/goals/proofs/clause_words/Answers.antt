@@ -1,6 +1,5 @@
 -- `goals::clause_words` meets its contract. Assumes nothing.
 use native.Mathlib.Omega.{arith}
-use borrow.Author.Rules.{rules}
 use borrow.Author.Tests.{eq-eqb, ne_eqb}
 use Rattle.model.specs.Memory.{clause_position}
 use Rattle.goals.proofs.clause_words.Goals as goal

@@ -1,6 +1,6 @@
 -- `goals::goal_from` meets its contract. The loop's invariant: what is left to do gives the whole. Assumes nothing.
-use mathlib.Core.Path.{◌≡◌, refl, ap, ◌∙◌}
-use Prim.Native.Nat.{ℕ, ◌+◌, ◌-◌, ◌*◌, ◌≤◌}
+use mathlib.Core.Path.{refl, ap, ◌∙◌}
+use Prim.Native.Nat.{ℕ, ◌-◌}
 use native.Mathlib.Omega.{arith}
 use Rattle.model.specs.Decoding.{goal_from}
 use Rattle.goals.proofs.PlaceLaws.{goal_from-end, goal_from-turn, goal_next-le}

@@ -1,9 +1,7 @@
 -- `goals::goal_from` meets its contract. The loop's invariant: what is left to do gives the whole. Assumes nothing.
-use mathlib.Core.Path.{◌≡◌, refl, ap, ◌∙◌}
-use Prim.Native.Nat.{ℕ, ◌+◌, ◌-◌, ◌*◌, ◌≤◌}
-use native.Mathlib.Omega.{arith}
+use mathlib.Core.Path.{◌≡◌}
+use Prim.Native.Nat.{◌+◌, ◌*◌, ◌≤◌}
 use Rattle.model.specs.Decoding.{goal_from}
-use Rattle.goals.proofs.PlaceLaws.{goal_from-end, goal_from-turn, goal_next-le}
 use Rattle.goals.proofs.goal_from.Given as goal
 
 abbrev pub invariant-loop-left : goal.invariant-loop-left

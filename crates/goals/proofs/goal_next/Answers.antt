@@ -1,7 +1,6 @@
 -- `goals::goal_next` meets its contract. Assumes nothing.
 use mathlib.Core.Path.{ap, ◌∙◌}
 use Prim.Native.Nat.{ℕ, ◌+◌}
-use borrow.Author.Rules.{rules}
 use Rattle.model.specs.Decoding.{goal_next}
 use Rattle.model.specs.Image.{predicate_word}
 use Rattle.model.specs.Fields.{arity, goal_predicate}

@@ -2,7 +2,6 @@
 use mathlib.Core.List.{List}
 use mathlib.Core.Path.{ap₂, ◌∙◌}
 use Prim.Native.Nat.{ℕ}
-use borrow.Author.Rules.{rules}
 use Rattle.model.specs.Goals.{clause_words, goal_place}
 use Rattle.model.specs.Memory.{clause_position}
 use Rattle.goals.proofs.goal_of.Goals as goal

@@ -2,7 +2,6 @@
 use mathlib.Core.Path.{ap, ◌∙◌}
 use Prim.Native.Nat.{ℕ, ◌+◌}
 use native.Mathlib.Omega.{arith}
-use borrow.Author.Rules.{rules}
 use Rattle.model.specs.Goals.{goal_place}
 use Rattle.model.specs.Decoding.{goal_from}
 use Rattle.goals.proofs.PlaceLaws.{past_head-le}

@@ -3,7 +3,6 @@ use mathlib.Core.List.{List}
 use mathlib.Core.Path.{ap, ap₂, ◌∙◌}
 use Prim.Native.Nat.{ℕ}
 use lib.ListN.{get_or}
-use borrow.Author.Rules.{rules}
 use Rattle.model.specs.Fields.{goal_count}
 use Rattle.goals.proofs.goals_of.Goals as goal
 

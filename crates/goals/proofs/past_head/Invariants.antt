@@ -1,11 +1,7 @@
 -- `goals::past_head` meets its contract. The loop's invariant: what is left to do gives the whole. Assumes nothing.
-use mathlib.Core.Path.{◌≡◌, refl, sym, ap, ◌∙◌}
+use mathlib.Core.Path.{◌≡◌}
 use Prim.Native.Nat.{◌+◌}
-use native.Mathlib.Omega.{arith}
-use borrow.Author.Rules.{rules}
 use Rattle.model.specs.Goals.{past_head}
-use Rattle.model.specs.Fields.{op}
-use Rattle.goals.proofs.PlaceLaws.{past_head-end, past_head-hit, past_head-miss}
 use Rattle.goals.proofs.past_head.Given as goal
 
 abbrev pub invariant-loop-left : goal.invariant-loop-left

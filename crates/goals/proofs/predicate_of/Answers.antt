@@ -3,7 +3,6 @@ use mathlib.Core.List.{List}
 use mathlib.Core.Path.{ap, ap₂, ◌∙◌}
 use Prim.Native.Nat.{ℕ}
 use lib.ListN.{get_or}
-use borrow.Author.Rules.{rules}
 use Rattle.model.specs.Goals.{clause_words}
 use Rattle.model.specs.Fields.{goal_predicate}
 use Rattle.goals.proofs.predicate_of.Goals as goal

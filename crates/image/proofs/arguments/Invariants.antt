@@ -1,9 +1,6 @@
 -- `image::arguments` meets its contract. The loop's invariant: what is left to do gives the whole. Assumes nothing.
-use mathlib.Core.Path.{◌≡◌, refl, sym, ◌∙◌}
-use native.Mathlib.Omega.{arith}
-use borrow.Author.Rules.{rules}
+use mathlib.Core.Path.{◌≡◌}
 use Rattle.model.specs.Image.{arguments}
-use Rattle.image.proofs.WalkLaws.{arguments-end, arguments-turn}
 use Rattle.image.proofs.arguments.Given as goal
 
 abbrev pub invariant-loop-left : goal.invariant-loop-left

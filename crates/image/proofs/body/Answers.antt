@@ -1,7 +1,6 @@
 -- `image::body` meets its contract. Assumes nothing.
 use mathlib.Core.Path.{sym, ap, ap₂, ◌∙◌}
 use Prim.Native.Nat.{ℕ}
-use borrow.Author.Rules.{rules}
 use Rattle.model.specs.Image.{onward, arguments, goals}
 use Rattle.model.specs.Fields.{variables, goal_count}
 use Rattle.image.proofs.body.Goals as goal

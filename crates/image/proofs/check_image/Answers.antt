@@ -1,6 +1,5 @@
 -- `image::check_image` meets its contract. Assumes nothing.
 use mathlib.Core.Path.{sym, ap, ◌∙◌}
-use borrow.Author.Rules.{rules}
 use Rattle.model.specs.Image.{verdict, check_image}
 use Rattle.model.specs.declared.Refusal.TheVariants.{Image}
 use Rattle.image.proofs.check_image.Goals as goal

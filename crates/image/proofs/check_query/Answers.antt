@@ -1,6 +1,5 @@
 -- `image::check_query` meets its contract. Assumes nothing.
 use mathlib.Core.Path.{sym, ap, ◌∙◌}
-use borrow.Author.Rules.{rules}
 use Rattle.model.specs.Image.{verdict, if_legal, query_walk, check_query}
 use Rattle.model.specs.declared.Verdict.{Verdict}
 use Rattle.model.specs.declared.Refusal.TheVariants.{Query}

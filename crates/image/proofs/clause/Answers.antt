@@ -1,6 +1,5 @@
 -- `image::clause` meets its contract. Assumes nothing.
 use mathlib.Core.Path.{sym, ◌∙◌}
-use borrow.Author.Rules.{rules}
 use Rattle.model.specs.declared.Walk.TheVariants.{On, Met}
 use Rattle.image.proofs.ClauseLaws.{clause-stops, clause-body, clause-forward}
 use Rattle.image.proofs.clause.Goals as goal

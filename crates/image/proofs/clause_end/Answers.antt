@@ -1,7 +1,6 @@
 -- `image::clause_end` meets its contract. Assumes nothing.
 use Prim.Native.Nat.{◌-◌}
 use native.Mathlib.Omega.{arith}
-use borrow.Author.Rules.{rules}
 use borrow.Author.Tests.{lt-ltb, le-ltb, eq-eqb, ne_eqb}
 use Rattle.model.specs.Image.{clause_end}
 use Rattle.model.specs.Fields.{variables, clause_length}

@@ -1,7 +1,6 @@
 -- `image::clause_word` meets its contract. Assumes nothing.
 use native.Mathlib.Omega.{arith}
 use lib.ListN.{get_or}
-use borrow.Author.Rules.{rules}
 use borrow.Author.Tests.{lt-ltb, le-ltb, le-leb, lt-leb, eq-eqb, ne_eqb}
 use Rattle.model.specs.Image.{clause_word}
 use Rattle.model.specs.Fields.{op, variables, goal_count}

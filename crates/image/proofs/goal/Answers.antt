@@ -2,7 +2,6 @@
 use mathlib.Core.Path.{sym, ap, ◌∙◌}
 use Prim.Native.Nat.{ℕ}
 use lib.ListN.{get_or}
-use borrow.Author.Rules.{rules}
 use Rattle.model.specs.Image.{onward, predicate_word, arguments, goal}
 use Rattle.model.specs.Fields.{arity, goal_predicate}
 use Rattle.model.specs.declared.Walk.TheVariants.{On}

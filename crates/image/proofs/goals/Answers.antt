@@ -1,8 +1,6 @@
 -- `image::goals` meets its contract. The loop's invariant: what is left to do gives the whole. Assumes nothing.
-use mathlib.Core.Path.{◌≡◌, refl, sym, ◌∙◌}
+use mathlib.Core.Path.{refl, sym, ◌∙◌}
 use native.Mathlib.Omega.{arith}
-use borrow.Author.Rules.{rules}
-use Rattle.model.specs.Image.{goals}
 use Rattle.image.proofs.WalkLaws.{goals-end, goals-turn}
 use Rattle.image.proofs.goals.Goals as goal
 

@@ -1,9 +1,6 @@
 -- `image::goals` meets its contract. The loop's invariant: what is left to do gives the whole. Assumes nothing.
-use mathlib.Core.Path.{◌≡◌, refl, sym, ◌∙◌}
-use native.Mathlib.Omega.{arith}
-use borrow.Author.Rules.{rules}
+use mathlib.Core.Path.{◌≡◌}
 use Rattle.model.specs.Image.{goals}
-use Rattle.image.proofs.WalkLaws.{goals-end, goals-turn}
 use Rattle.image.proofs.goals.Given as goal
 
 abbrev pub invariant-loop-left : goal.invariant-loop-left

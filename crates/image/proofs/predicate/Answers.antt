@@ -2,7 +2,6 @@
 use mathlib.Core.Path.{ap, ap₂, ◌∙◌}
 use Prim.Native.Nat.{ℕ}
 use native.Mathlib.Omega.{arith}
-use borrow.Author.Rules.{rules}
 use borrow.Author.Tests.{eq-eqb, ne_eqb}
 use Rattle.model.specs.Image.{predicate_word, clauses, predicate}
 use Rattle.model.specs.Fields.{arity, clause_count, first_clause}

@@ -1,9 +1,6 @@
 -- `image::predicates` meets its contract. The loop's invariant: what is left to do gives the whole. Assumes nothing.
-use mathlib.Core.Path.{◌≡◌, refl, sym, ◌∙◌}
-use Prim.Native.Nat.{◌+◌}
+use mathlib.Core.Path.{refl, sym, ◌∙◌}
 use native.Mathlib.Omega.{arith}
-use borrow.Author.Rules.{rules}
-use Rattle.model.specs.Image.{predicates}
 use Rattle.image.proofs.WalkLaws.{predicates-end, predicates-turn}
 use Rattle.image.proofs.predicates.Goals as goal
 

@@ -1,6 +1,5 @@
 -- `image::variable_at` meets its contract. Assumes nothing.
 use native.Mathlib.Omega.{arith}
-use borrow.Author.Rules.{rules}
 use borrow.Author.Tests.{lt-ltb, le-ltb, eq-eqb, ne_eqb}
 use Rattle.model.specs.Image.{variable_at}
 use Rattle.model.specs.Fields.{variable_zero, variable_number}

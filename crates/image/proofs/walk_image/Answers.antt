@@ -1,7 +1,6 @@
 -- `image::walk_image` meets its contract. Assumes nothing.
 use mathlib.Core.Path.{sym, ap, ◌∙◌}
 use native.Mathlib.Omega.{arith}
-use borrow.Author.Rules.{rules}
 use Rattle.model.specs.Fields.{predicate_count}
 use Rattle.model.specs.declared.Walk.TheVariants.{On, Met}
 use Rattle.image.proofs.ClauseLaws.{predicate_count-lt, image-stops, image-body}

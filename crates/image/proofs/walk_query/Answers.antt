@@ -1,6 +1,5 @@
 -- `image::walk_query` meets its contract. Assumes nothing.
 use mathlib.Core.Path.{sym, ap, ◌∙◌}
-use borrow.Author.Rules.{rules}
 use Rattle.model.specs.Image.{onward, ending, query_walk}
 use Rattle.image.proofs.walk_query.Goals as goal
 

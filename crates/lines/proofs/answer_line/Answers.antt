@@ -4,7 +4,6 @@ use Rattle.lines.proofs.WholeLaws.{line-none, line-whole, answer-no-room, answer
 use Rattle.lines.proofs.LineLaws.{decimal-short}
 use Rattle.desk_model.specs.Lines.{answer_line, roomy, few_values}
 use native.Mathlib.Omega.{arith}
-use borrow.Author.Rules.{rules}
 use Rattle.lines.proofs.answer_line.Goals as goal
 
 pub returns-then-line-lt1024 : goal.returns-then-line-lt1024

@@ -2,7 +2,6 @@
 use Rattle.lines.proofs.WholeLaws.{is-roomy, not-roomy, line-none, line-whole, name-short, spaced-short, ending-short, ending_of}
 use Rattle.desk_model.specs.Lines.{ending_line, roomy}
 use native.Mathlib.Omega.{arith}
-use borrow.Author.Rules.{rules}
 use Rattle.lines.proofs.ending_line.Goals as goal
 
 pub returns-then-line-lt1024 : goal.returns-then-line-lt1024

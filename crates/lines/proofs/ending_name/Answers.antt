@@ -1,6 +1,5 @@
 -- `lines::ending_name` meets its contract. Assumes nothing.
 use Rattle.desk_model.specs.Lines.{ending_name}
-use borrow.Author.Rules.{rules}
 use Rattle.lines.proofs.ending_name.Goals as goal
 
 pub returns-in-Finished : goal.returns-in-Finished

@@ -1,7 +1,6 @@
 -- `lines::put` meets its contract. Assumes nothing.
 use mathlib.Core.Path.{sym}
 use lib.Seq.{set_out}
-use borrow.Author.Rules.{rules}
 use Rattle.lines.proofs.put.Goals as goal
 
 pub returns-else-at-line : goal.returns-else-at-line

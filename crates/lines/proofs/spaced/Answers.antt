@@ -1,6 +1,5 @@
 -- `lines::spaced` meets its contract. Assumes nothing.
 use Rattle.lines.proofs.WholeLaws.{spaced-of}
-use borrow.Author.Rules.{rules}
 use Rattle.lines.proofs.spaced.Goals as goal
 
 pub returns : goal.returns

@@ -1,11 +1,8 @@
 -- `lines::text` meets its contract. The loop's invariant: what is left to write gives the whole. Assumes nothing.
-use mathlib.Core.Path.{◌≡◌, refl, ◌∙◌}
+use mathlib.Core.Path.{◌≡◌}
 use Prim.Native.Nat.{◌-◌, ◌≤◌}
-use native.Mathlib.Omega.{arith}
 use lib.ListN.{length, drop}
 use Rattle.desk_model.specs.Lines.{written}
-use Rattle.lines.proofs.LineLaws.{written-turn, written_none}
-use borrow.Author.Rules.{rules}
 use Rattle.lines.proofs.text.Given as goal
 
 abbrev pub invariant-loop-at : goal.invariant-loop-at

@@ -1,6 +1,5 @@
 -- `lines::value_text` meets its contract. Assumes nothing.
 use Rattle.lines.proofs.WholeLaws.{value-constant, value-variable}
-use borrow.Author.Rules.{rules}
 use Rattle.lines.proofs.value_text.Goals as goal
 
 pub returns-then-op-eq2 : goal.returns-then-op-eq2

@@ -1,11 +1,8 @@
 -- `lines::value_texts` meets its contract. Assumes nothing.
-use mathlib.Core.Path.{◌≡◌, refl, ◌∙◌}
-use Prim.Native.Nat.{◌+◌, ◌-◌, ◌*◌, ◌≤◌}
-use lib.ListN.{length, get_or, drop}
-use Rattle.desk_model.specs.Lines.{written, value_texts}
+use mathlib.Core.Path.{refl, ◌∙◌}
+use lib.ListN.{get_or}
 use Rattle.lines.proofs.WholeLaws.{values-turn, values-end, value-short}
 use native.Mathlib.Omega.{arith}
-use borrow.Author.Rules.{rules}
 use Rattle.lines.proofs.value_texts.Goals as goal
 
 pub loop-i-init : goal.loop-i-init

@@ -1,11 +1,8 @@
 -- `lines::value_texts` meets its contract. Assumes nothing.
-use mathlib.Core.Path.{◌≡◌, refl, ◌∙◌}
+use mathlib.Core.Path.{◌≡◌}
 use Prim.Native.Nat.{◌+◌, ◌-◌, ◌*◌, ◌≤◌}
-use lib.ListN.{length, get_or, drop}
+use lib.ListN.{length, drop}
 use Rattle.desk_model.specs.Lines.{written, value_texts}
-use Rattle.lines.proofs.WholeLaws.{values-turn, values-end, value-short}
-use native.Mathlib.Omega.{arith}
-use borrow.Author.Rules.{rules}
 use Rattle.lines.proofs.value_texts.Given as goal
 
 abbrev pub invariant-loop-i : goal.invariant-loop-i

@@ -1,10 +1,8 @@
 -- `moves::common_ancestor` meets its contract. The loop's invariant: what is left to do gives the whole. Assumes nothing.
-use mathlib.Core.Logic.{⊎_elim}
-use mathlib.Core.Path.{◌≡◌, ap₂, ◌∙◌}
+use mathlib.Core.Path.{ap₂, ◌∙◌}
 use Prim.Native.Nat.{ℕ, ◌+◌, ◌-◌}
 use native.Mathlib.Omega.{arith}
-use Rattle.model.specs.Moves.{meeting, common_ancestor}
-use Rattle.model.specs.Memory.{depth}
+use Rattle.model.specs.Moves.{meeting}
 use Rattle.memory.proofs.FieldBounds.{depth-lt}
 use Rattle.moves.proofs.MoveLaws.{meeting-end, meeting-met, meeting-other, meeting-slot}
 use Rattle.moves.proofs.common_ancestor.Goals.{then-depth, else-depth}
@@ -48,12 +46,12 @@ loop-left-preserved c =
     let l = c.loop-left in
     let a = c.args in
     elim c.if-depth.branch [
-      then-depth w ↦
-        ap₂ (λ (i j : ℕ). meeting (l.left - 1) a.nodes.now i j) w.here-is (w.there-is ∙ w.parent-there.ensures)
-        ∙ meeting-other a.nodes.now l.left l.here l.there (omega arith) c.if-here-there.false (omega (arith, w.if-depth.true, c.depth-in-loop-left.ensures, c.depth-in-loop-left-2.ensures)) ∙ l.invariant
-    | else-depth w ↦
-        ap₂ (λ (i j : ℕ). meeting (l.left - 1) a.nodes.now i j) (w.here-is ∙ w.parent-here.ensures) w.there-is
-        ∙ meeting-slot a.nodes.now l.left l.here l.there (omega arith) c.if-here-there.false (omega (arith, w.if-depth.false, c.depth-in-loop-left.ensures, c.depth-in-loop-left-2.ensures)) ∙ l.invariant
+      | then-depth w ↦
+          ap₂ (λ (i j : ℕ). meeting (l.left - 1) a.nodes.now i j) w.here-is (w.there-is ∙ w.parent-there.ensures)
+          ∙ meeting-other a.nodes.now l.left l.here l.there (omega arith) c.if-here-there.false (omega (arith, w.if-depth.true, c.depth-in-loop-left.ensures, c.depth-in-loop-left-2.ensures)) ∙ l.invariant
+      | else-depth w ↦
+          ap₂ (λ (i j : ℕ). meeting (l.left - 1) a.nodes.now i j) (w.here-is ∙ w.parent-here.ensures) w.there-is
+          ∙ meeting-slot a.nodes.now l.left l.here l.there (omega arith) c.if-here-there.false (omega (arith, w.if-depth.false, c.depth-in-loop-left.ensures, c.depth-in-loop-left-2.ensures)) ∙ l.invariant
     ]
 
 pub returns : goal.returns

@@ -1,12 +1,6 @@
 -- `moves::common_ancestor` meets its contract. The loop's invariant: what is left to do gives the whole. Assumes nothing.
-use mathlib.Core.Logic.{⊎_elim}
-use mathlib.Core.Path.{◌≡◌, ap₂, ◌∙◌}
-use Prim.Native.Nat.{ℕ, ◌+◌, ◌-◌}
-use native.Mathlib.Omega.{arith}
+use mathlib.Core.Path.{◌≡◌}
 use Rattle.model.specs.Moves.{meeting, common_ancestor}
-use Rattle.model.specs.Memory.{depth}
-use Rattle.memory.proofs.FieldBounds.{depth-lt}
-use Rattle.moves.proofs.MoveLaws.{meeting-end, meeting-met, meeting-other, meeting-slot}
 use Rattle.moves.proofs.common_ancestor.Given as goal
 
 abbrev pub invariant-loop-left : goal.invariant-loop-left

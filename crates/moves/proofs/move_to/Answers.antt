@@ -1,7 +1,6 @@
 -- `moves::move_to` meets its contract. Assumes nothing.
 use Prim.Native.Nat.{◌*◌}
 use native.Mathlib.Nat.{add-sub_cancel_left}
-use borrow.Author.Rules.{rules}
 use Rattle.moves.proofs.MoveLaws.{moved_by}
 use Rattle.moves.proofs.move_to.Goals as goal
 

@@ -1,10 +1,7 @@
 -- `moves::place_of` meets its contract. The loop's invariant: what is left to do gives the whole. Assumes nothing.
-use mathlib.Core.Path.{◌≡◌, ◌∙◌}
-use Prim.Native.Nat.{◌-◌, ◌≤◌}
+use mathlib.Core.Path.{◌∙◌}
 use native.Mathlib.Omega.{arith}
-use lib.ListN.{take}
-use Rattle.model.specs.Moves.{place_of}
-use Rattle.moves.proofs.ReadLaws.{place_from, place-start, place_here, place-later, place_end}
+use Rattle.moves.proofs.ReadLaws.{place-start, place_here, place-later, place_end}
 use Rattle.moves.proofs.place_of.Goals as goal
 
 pub loop-at-init : goal.loop-at-init

@@ -1,10 +1,9 @@
 -- `moves::place_of` meets its contract. The loop's invariant: what is left to do gives the whole. Assumes nothing.
-use mathlib.Core.Path.{◌≡◌, ◌∙◌}
+use mathlib.Core.Path.{◌≡◌}
 use Prim.Native.Nat.{◌-◌, ◌≤◌}
-use native.Mathlib.Omega.{arith}
 use lib.ListN.{take}
 use Rattle.model.specs.Moves.{place_of}
-use Rattle.moves.proofs.ReadLaws.{place_from, place-start, place_here, place-later, place_end}
+use Rattle.moves.proofs.ReadLaws.{place_from}
 use Rattle.moves.proofs.place_of.Given as goal
 
 abbrev pub invariant-loop-at : goal.invariant-loop-at

@@ -4,7 +4,6 @@ use Prim.Native.Nat.{◌*◌}
 use native.Mathlib.Omega.{arith}
 use native.Mathlib.Nat.{add-sub_cancel_left}
 use lib.ListN.{get_or}
-use borrow.Author.Rules.{rules}
 use Rattle.model.specs.Fields.{variables}
 use Rattle.memory.proofs.FieldBounds.{variables-lt}
 use Rattle.moves.proofs.ReadLaws.{answer-of}

@@ -2,7 +2,6 @@
 use mathlib.Core.Path.{sym, ap, ◌∙◌}
 use native.Mathlib.Omega.{arith}
 use lib.ListN.{set}
-use borrow.Author.Rules.{rules}
 use Rattle.moves.proofs.ReadLaws.{constant-word, constant-seen, variable-word, old-seen, new-seen}
 use Rattle.moves.proofs.read_word.Goals as goal
 

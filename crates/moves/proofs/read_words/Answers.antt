@@ -1,10 +1,9 @@
 -- `moves::read_words` meets its contract. The loop's invariant: what is left to do gives the whole. Assumes nothing.
-use mathlib.Core.List.{[]}
-use mathlib.Core.Path.{◌≡◌, refl, ◌∙◌}
-use Prim.Native.Nat.{ℕ, ◌-◌, ◌≤◌}
+use mathlib.Core.Path.{refl, ◌∙◌}
+use Prim.Native.Nat.{ℕ, ◌-◌}
 use native.Mathlib.Omega.{arith}
-use lib.ListN.{length, take, length-replicate}
-use Rattle.moves.proofs.ReadLaws.{answered, answered-turn, answered-start, answered-end, answered-whole}
+use lib.ListN.{take, length-replicate}
+use Rattle.moves.proofs.ReadLaws.{answered-turn, answered-start, answered-end, answered-whole}
 use Rattle.moves.proofs.read_words.Goals as goal
 
 pub loop-variable-init : goal.loop-variable-init

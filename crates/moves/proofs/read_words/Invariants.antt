@@ -1,10 +1,9 @@
 -- `moves::read_words` meets its contract. The loop's invariant: what is left to do gives the whole. Assumes nothing.
 use mathlib.Core.List.{[]}
-use mathlib.Core.Path.{◌≡◌, refl, ◌∙◌}
-use Prim.Native.Nat.{ℕ, ◌-◌, ◌≤◌}
-use native.Mathlib.Omega.{arith}
-use lib.ListN.{length, take, length-replicate}
-use Rattle.moves.proofs.ReadLaws.{answered, answered-turn, answered-start, answered-end, answered-whole}
+use mathlib.Core.Path.{◌≡◌}
+use Prim.Native.Nat.{◌-◌, ◌≤◌}
+use lib.ListN.{length, take}
+use Rattle.moves.proofs.ReadLaws.{answered}
 use Rattle.moves.proofs.read_words.Given as goal
 
 abbrev pub invariant-loop-variable : goal.invariant-loop-variable

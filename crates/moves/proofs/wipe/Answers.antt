@@ -1,6 +1,5 @@
 -- `moves::wipe` meets its contract. Assumes nothing.
 use mathlib.Core.Path.{◌∙◌}
-use borrow.Author.Rules.{rules}
 use Rattle.moves.proofs.LoadLaws.{cleared-all, same_memory}
 use Rattle.moves.proofs.wipe.Goals as goal
 

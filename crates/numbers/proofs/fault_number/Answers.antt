@@ -1,6 +1,5 @@
 -- `numbers::fault_number` meets its contract. Assumes nothing.
 use mathlib.Core.Path.{sym, ap}
-use borrow.Author.Rules.{rules}
 use Rattle.model.specs.Numbers.{fault_number}
 use Rattle.numbers.proofs.fault_number.Goals as goal
 

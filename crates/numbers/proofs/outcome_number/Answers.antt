@@ -1,6 +1,5 @@
 -- `numbers::outcome_number` meets its contract. Assumes nothing.
 use mathlib.Core.Path.{sym, ap}
-use borrow.Author.Rules.{rules}
 use Rattle.model.specs.Machine.{outcome_number}
 use Rattle.numbers.proofs.outcome_number.Goals as goal
 

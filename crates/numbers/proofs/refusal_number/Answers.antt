@@ -2,7 +2,6 @@
 use mathlib.Core.Path.{sym, ap, ◌∙◌}
 use Prim.Native.Nat.{ℕ, ◌+◌}
 use native.Mathlib.Omega.{arith}
-use borrow.Author.Rules.{rules}
 use Rattle.model.specs.Numbers.{refusal_number}
 use Rattle.numbers.proofs.FaultLaws.{fault_number-lt}
 use Rattle.numbers.proofs.refusal_number.Goals as goal

@@ -1,6 +1,5 @@
 -- `passing::blank` meets its contract. Assumes nothing.
 use mathlib.Core.Path.{◌∙◌}
-use borrow.Author.Rules.{rules}
 use Rattle.passing.proofs.PassLaws.{blank-short, blank-long}
 use Rattle.passing.proofs.blank.Goals as goal
 

@@ -3,7 +3,6 @@ use mathlib.Core.Path.{◌≡◌, sym, ap₂, ◌∙◌}
 use Prim.Native.Nat.{ℕ, ◌+◌, ◌-◌}
 use native.Mathlib.Nat.{add-zero}
 use native.Mathlib.Omega.{arith}
-use borrow.Author.Rules.{rules}
 use Rattle.passing.specs.Clash.{compare, clashes}
 use Rattle.passing.proofs.PassLaws.{clashes-end, clashes-differ, clashes-unsure, clashes-turn}
 use Rattle.passing.proofs.clashes.Goals as goal

@@ -1,11 +1,7 @@
 -- `passing::clashes` meets its contract. The loop's invariant: what is left to do gives the whole. Assumes nothing.
-use mathlib.Core.Path.{◌≡◌, sym, ap₂, ◌∙◌}
-use Prim.Native.Nat.{ℕ, ◌+◌, ◌-◌}
-use native.Mathlib.Nat.{add-zero}
-use native.Mathlib.Omega.{arith}
-use borrow.Author.Rules.{rules}
-use Rattle.passing.specs.Clash.{compare, clashes}
-use Rattle.passing.proofs.PassLaws.{clashes-end, clashes-differ, clashes-unsure, clashes-turn}
+use mathlib.Core.Path.{◌≡◌}
+use Prim.Native.Nat.{◌+◌}
+use Rattle.passing.specs.Clash.{clashes}
 use Rattle.passing.proofs.clashes.Given as goal
 
 abbrev pub invariant-loop-left : goal.invariant-loop-left

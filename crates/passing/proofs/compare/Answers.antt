@@ -1,6 +1,5 @@
 -- `passing::compare` meets its contract. Assumes nothing.
 use mathlib.Core.Path.{sym, ◌∙◌}
-use borrow.Author.Rules.{rules}
 use Rattle.passing.proofs.PassLaws.{compare-variable, compare-equal, compare-differ, compare-takes, compare-unsure}
 use Rattle.passing.proofs.compare.Goals as goal
 

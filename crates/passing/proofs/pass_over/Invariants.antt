@@ -1,17 +1,9 @@
 -- `passing::pass_over` meets its contract. The loop's invariant: what is left to do gives the whole, and the place is so many clauses on. Assumes nothing.
-use mathlib.Core.List.{List}
-use mathlib.Core.Path.{◌≡◌, refl, sym, ap, ap₂, ◌∙◌}
-use Prim.Native.Nat.{ℕ, ◌+◌, ◌-◌, ◌*◌, ◌≤◌}
-use native.Mathlib.Omega.{arith}
+use mathlib.Core.Path.{◌≡◌}
+use Prim.Native.Nat.{◌+◌, ◌*◌, ◌≤◌}
 use lib.ListN.{length}
-use borrow.Author.Tests.{not-true, not-false}
-use borrow.Author.Rules.{rules}
-use Rattle.model.specs.Fields.{clause_length}
 use Rattle.model.specs.Decoding.{clause_from}
-use Rattle.goals.proofs.PlaceLaws.{clause_from-end}
-use Rattle.memory.proofs.FieldBounds.{clause_length-lt}
 use Rattle.passing.specs.Passing.{pass_over}
-use Rattle.passing.proofs.PassLaws.{pass_over-end, pass_over-stop, pass_over-turn, place-turn}
 use Rattle.passing.proofs.pass_over.Given as goal
 
 abbrev pub invariant-loop-left : goal.invariant-loop-left

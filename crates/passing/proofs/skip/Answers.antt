@@ -2,8 +2,6 @@
 use mathlib.Core.Path.{sym, ap, ap₂, ◌∙◌}
 use Prim.Native.Nat.{ℕ, ◌-◌, min}
 use native.Mathlib.Omega.{arith}
-use borrow.Author.Tests.{not-true, not-false}
-use borrow.Author.Rules.{rules}
 use Rattle.model.specs.Fields.{arity, clause_count}
 use Rattle.goals.proofs.PlaceLaws.{clause_from-end}
 use Rattle.memory.proofs.FieldBounds.{arity-lt, clause_count-lt, own_variables-lt, base-lt, frame-lt}
@@ -24,10 +22,10 @@ fails_plainly-requires c = let a = c.args in
 
 pub returns-then-not-fails_plainly : goal.returns-then-not-fails_plainly
 returns-then-not-fails_plainly c = let a = c.args in (
-      skipped-not a.image.now a.query.now a.nodes.now a.cells.now a.trail.now a.array.now c.clause_words-words.result.now a.node a.child a.predicate a.place a.position a.most c.frame-slot.result c.base.result c.own_variables.result c.arity-arity.result
-          c.frame-slot.ensures c.clause_words-words.ensures c.base.ensures c.own_variables.ensures (c.arity-arity.ensures ∙ ap arity c.word_at-word.ensures) (sym c.if-not-fails_plainly.true ∙ c.fails_plainly.ensures),
-      clause_from-end a.image.now 0 a.position (omega arith),
-    )
+  skipped-not a.image.now a.query.now a.nodes.now a.cells.now a.trail.now a.array.now c.clause_words-words.result.now a.node a.child a.predicate a.place a.position a.most c.frame-slot.result c.base.result c.own_variables.result c.arity-arity.result
+      c.frame-slot.ensures c.clause_words-words.ensures c.base.ensures c.own_variables.ensures (c.arity-arity.ensures ∙ ap arity c.word_at-word.ensures) (sym c.if-not-fails_plainly.true ∙ c.fails_plainly.ensures),
+  clause_from-end a.image.now 0 a.position (omega arith),
+)
 
 pub overflow_mul-arity : goal.overflow_mul-arity
 overflow_mul-arity c = omega (arith, c.arity-arity.ensures, arity-lt c.word_at-word.result)
@@ -37,10 +35,10 @@ blank-requires c = omega (arith, c.ranges.child)
 
 pub returns-then-not-blank : goal.returns-then-not-blank
 returns-then-not-blank c = let a = c.args in (
-      skipped-written a.image.now a.query.now a.nodes.now a.cells.now a.trail.now a.array.now c.clause_words-words.result.now a.node a.child a.predicate a.place a.position a.most c.frame-slot.result c.base.result c.own_variables.result c.arity-arity.result
-          c.frame-slot.ensures c.clause_words-words.ensures c.base.ensures c.own_variables.ensures (c.arity-arity.ensures ∙ ap arity c.word_at-word.ensures) (sym c.if-not-fails_plainly.false ∙ c.fails_plainly.ensures) (sym c.if-not-blank.true ∙ c.blank.ensures),
-      clause_from-end a.image.now 0 a.position (omega arith),
-    )
+  skipped-written a.image.now a.query.now a.nodes.now a.cells.now a.trail.now a.array.now c.clause_words-words.result.now a.node a.child a.predicate a.place a.position a.most c.frame-slot.result c.base.result c.own_variables.result c.arity-arity.result
+      c.frame-slot.ensures c.clause_words-words.ensures c.base.ensures c.own_variables.ensures (c.arity-arity.ensures ∙ ap arity c.word_at-word.ensures) (sym c.if-not-fails_plainly.false ∙ c.fails_plainly.ensures) (sym c.if-not-blank.true ∙ c.blank.ensures),
+  clause_from-end a.image.now 0 a.position (omega arith),
+)
 
 pub overflow_sub-untried : goal.overflow_sub-untried
 overflow_sub-untried c = omega (arith, c.tried.ensures, c.clause_count.ensures ∙ ap clause_count c.word_at-word.ensures, c.requires.2)
@@ -51,8 +49,8 @@ pass_over-requires c = let a = c.args in
 
 pub returns : goal.returns
 returns c = let a = c.args in (
-      skipped-over a.image.now a.query.now a.nodes.now a.cells.now a.trail.now a.array.now c.clause_words-words.result.now a.node a.child a.predicate a.place a.position a.most c.frame-slot.result c.base.result c.own_variables.result c.arity-arity.result
-          c.frame-slot.ensures c.clause_words-words.ensures c.base.ensures c.own_variables.ensures (c.arity-arity.ensures ∙ ap arity c.word_at-word.ensures) (sym c.if-not-fails_plainly.false ∙ c.fails_plainly.ensures) (sym c.if-not-blank.false ∙ c.blank.ensures)
-          c.least.result _ (c.least.ensures ∙ ap₂ (λ (n k : ℕ). min a.most (n - k)) (c.clause_count.ensures ∙ ap clause_count c.word_at-word.ensures) c.tried.ensures) c.pass_over.ensures.0,
-      c.pass_over.ensures.1,
-    )
+  skipped-over a.image.now a.query.now a.nodes.now a.cells.now a.trail.now a.array.now c.clause_words-words.result.now a.node a.child a.predicate a.place a.position a.most c.frame-slot.result c.base.result c.own_variables.result c.arity-arity.result
+      c.frame-slot.ensures c.clause_words-words.ensures c.base.ensures c.own_variables.ensures (c.arity-arity.ensures ∙ ap arity c.word_at-word.ensures) (sym c.if-not-fails_plainly.false ∙ c.fails_plainly.ensures) (sym c.if-not-blank.false ∙ c.blank.ensures)
+      c.least.result _ (c.least.ensures ∙ ap₂ (λ (n k : ℕ). min a.most (n - k)) (c.clause_count.ensures ∙ ap clause_count c.word_at-word.ensures) c.tried.ensures) c.pass_over.ensures.0,
+  c.pass_over.ensures.1,
+)

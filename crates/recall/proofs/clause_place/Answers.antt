@@ -1,7 +1,6 @@
 -- `recall::clause_place` meets its contract. Assumes nothing.
 use mathlib.Core.Path.{refl, ◌∙◌}
 use native.Mathlib.Omega.{arith}
-use borrow.Author.Rules.{rules}
 use Rattle.goals.proofs.PlaceLaws.{clause_at-lt}
 use Rattle.recall.specs.Places.{clause_key, ClauseTold}
 use Rattle.recall.proofs.RecallLaws.{recall-true}

@@ -2,7 +2,6 @@
 use mathlib.Core.Path.{sym, ap, ap₂, subst, ◌∙◌}
 use Prim.Native.Nat.{ℕ, ◌+◌, ◌*◌}
 use native.Mathlib.Omega.{arith}
-use borrow.Author.Rules.{rules}
 use Rattle.model.specs.Memory.{frame, clause_position, goal_index}
 use Rattle.memory.proofs.FieldBounds.{clause_position-lt, goal_index-lt}
 use Rattle.goals.proofs.PlaceLaws.{goal_of-lt}

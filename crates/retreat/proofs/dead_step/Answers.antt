@@ -4,7 +4,6 @@ use mathlib.Core.Path.{sym, ap, ap₂, ◌∙◌}
 use Prim.Native.Nat.{ℕ, ◌*◌}
 use lib.ListN.{set}
 use lib.Dec.{eqb}
-use borrow.Author.Rules.{rules}
 use borrow.Author.Tests.{eq-eqb, ne_eqb}
 use Rattle.model.specs.Steps.{view, stepped, another_there, undone, left_for, freed}
 use Rattle.model.specs.Memory.{parent, entries, first_of, cleared}

@@ -1,5 +1,4 @@
 -- `retreat::free` meets its contract. Assumes nothing.
-use borrow.Author.Rules.{rules}
 use Rattle.retreat.proofs.free.Goals as goal
 
 pub returns : goal.returns

@@ -1,8 +1,7 @@
 -- `terms::dereference` meets its contract. The loop's invariant: what is left to do gives the whole. Assumes nothing.
-use mathlib.Core.Path.{◌≡◌, refl, sym, ap, ◌∙◌}
+use mathlib.Core.Path.{refl, sym, ap, ◌∙◌}
 use Prim.Native.Nat.{ℕ, ◌-◌}
 use native.Mathlib.Omega.{arith}
-use borrow.Author.Rules.{rules}
 use Rattle.model.specs.Terms.{found_said, dereference}
 use Rattle.model.specs.Memory.{tag, value}
 use Rattle.terms.proofs.TermLaws.{dereference-end, dereference-found, dereference-turn}

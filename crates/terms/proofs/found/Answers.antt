@@ -1,7 +1,6 @@
 -- `terms::found` meets its contract. Assumes nothing.
 use mathlib.Core.Path.{ap, ◌∙◌}
 use Prim.Native.Nat.{ℕ}
-use borrow.Author.Rules.{rules}
 use borrow.Author.Tests.{eq-eqb, ne_eqb}
 use Rattle.model.specs.Terms.{var_no, found_said}
 use Rattle.model.specs.Memory.{value}

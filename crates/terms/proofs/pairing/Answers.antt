@@ -1,6 +1,5 @@
 -- `terms::pairing` meets its contract. Assumes nothing.
 use mathlib.Core.Path.{sym, ap, ap₂, ◌∙◌}
-use borrow.Author.Rules.{rules}
 use Rattle.model.specs.Terms.{pairing}
 use Rattle.model.specs.declared.Pairing.TheVariants.{Binds}
 use Rattle.terms.proofs.TermLaws.{pairing-equal, pairing-clash, pairing-self, pairing-lower, pairing-higher}

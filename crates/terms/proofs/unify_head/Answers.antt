@@ -1,11 +1,9 @@
 -- `terms::unify_head` meets its contract. The loop's invariant: what is left to do gives the whole. Assumes nothing.
 use mathlib.Core.Path.{◌≡◌, refl, ap₂, ◌∙◌}
-use Prim.Native.Nat.{ℕ, ◌+◌, ◌-◌, ◌≤◌}
+use Prim.Native.Nat.{ℕ, ◌+◌, ◌≤◌}
 use native.Mathlib.Omega.{arith}
 use native.Mathlib.Nat.{add-zero}
-use lib.ListN.{length}
-use borrow.Author.Rules.{rules}
-use Rattle.model.specs.Terms.{onwards, unify_head}
+use Rattle.model.specs.Terms.{unify_head}
 use Rattle.terms.proofs.HeadLaws.{unify_head-end, unify_head-turn, unify_words-count}
 use Rattle.terms.proofs.unify_head.Goals as goal
 

@@ -1,6 +1,5 @@
 -- `terms::unify_pair` meets its contract. Assumes nothing.
 use mathlib.Core.Path.{sym, ap, ◌∙◌}
-use borrow.Author.Rules.{rules}
 use Rattle.model.specs.Terms.{unify_pair}
 use Rattle.terms.proofs.unify_pair.Goals as goal
 

@@ -1,6 +1,5 @@
 -- `terms::unify_words` meets its contract. Assumes nothing.
 use mathlib.Core.Path.{ap, ap₂, ◌∙◌}
-use borrow.Author.Rules.{rules}
 use Rattle.model.specs.Terms.{pairing, unify_pair, unify_words}
 use Rattle.terms.proofs.unify_words.Goals as goal
 

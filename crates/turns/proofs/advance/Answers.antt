@@ -1,6 +1,5 @@
 -- `turns::advance` meets its contract. Assumes nothing.
 use mathlib.Core.Path.{sym, ◌∙◌}
-use borrow.Author.Rules.{rules}
 use Rattle.model.specs.Steps.{view}
 use Rattle.turns.proofs.StepLaws.{live_goal-dead, live_goal-live, step-dead}
 use Rattle.turns.proofs.advance.Goals as goal

@@ -2,7 +2,6 @@
 use mathlib.Core.Bool.{Bool}
 use mathlib.Core.Path.{ap, ◌∙◌}
 use lib.Dec.{eqb}
-use borrow.Author.Rules.{rules}
 use Rattle.model.specs.Steps.{view, another_there, dead_rule}
 use Rattle.turns.proofs.HandLaws.{dead-agrees, step-agrees, follows}
 use Rattle.turns.proofs.dead.dead_advance.Goals as goal

@@ -4,7 +4,6 @@ use mathlib.Core.Path.{sym, ap, ◌∙◌}
 use Prim.Native.Nat.{ℕ}
 use native.Mathlib.Omega.{arith}
 use lib.Dec.{eqb}
-use borrow.Author.Rules.{rules}
 use Rattle.model.specs.Fields.{sequential}
 use Rattle.model.specs.Steps.{has_child}
 use Rattle.turns.proofs.ProgressLaws.{wait-step, full-step}

@@ -4,7 +4,6 @@ use mathlib.Core.Path.{sym, ap, ap₂, ◌∙◌}
 use Prim.Native.Nat.{ℕ}
 use native.Mathlib.Omega.{arith}
 use lib.ListN.{get_or}
-use borrow.Author.Rules.{rules}
 use Rattle.model.specs.Fields.{goal_predicate, clause_count}
 use Rattle.model.specs.Image.{predicate_word}
 use Rattle.model.specs.Goals.{clause_words}

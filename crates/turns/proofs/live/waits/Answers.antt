@@ -1,6 +1,5 @@
 -- `turns::live::waits` meets its contract. Assumes nothing.
 use native.Mathlib.Omega.{arith}
-use borrow.Author.Rules.{rules}
 use borrow.Author.Tests.{eq-eqb, ne_eqb}
 use Rattle.model.specs.Fields.{sequential}
 use Rattle.turns.proofs.live.waits.Goals as goal

@@ -3,7 +3,6 @@ use mathlib.Core.List.{List}
 use mathlib.Core.Path.{◌≡◌, ap, subst, sym, ◌∙◌}
 use Prim.Native.Nat.{ℕ, ◌<◌}
 use native.Mathlib.Omega.{arith}
-use borrow.Author.Rules.{rules}
 use Rattle.model.specs.Decoding.{clause_at, clause_from}
 use Rattle.model.specs.Memory.{frame, tried}
 use Rattle.model.specs.Goals.{clause_words}

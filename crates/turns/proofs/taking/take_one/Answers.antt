@@ -1,5 +1,4 @@
 -- `turns::taking::take_one` meets its contract. Assumes nothing.
-use borrow.Author.Rules.{rules}
 use Rattle.model.specs.Steps.{view}
 use Rattle.turns.proofs.HandLaws.{take-agrees, step-agrees, follows}
 use Rattle.turns.proofs.taking.take_one.Goals as goal
