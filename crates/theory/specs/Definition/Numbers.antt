@@ -13,7 +13,8 @@ use Rattle.theory.specs.Kit.Maps.{some-none}
 dereference_argument-under : (k : ℕ) (B : List Binding) (b n : ℕ) (x : Argument) → Sane B → b + n ≤ k → VariablesBelow n (x ∷ []) → (r : Dereferenced)
     → dereference_argument B b x ≡ r → Under k r
 unfolding dereference_argument dereference Under VariablesBelow ReferencesFall
-dereference_argument-under k B b n x s l v (constant c) e = tt
+dereference_argument-under k B b n (con d) s l v (constant c) e = tt
+dereference_argument-under k B b n (var i) s l v (constant c) e = tt
 dereference_argument-under k B b n (con c) s l v (unbound m) e = let z : ◌≡◌ {A = ℕ} 0 1 = cc in absurd (omega arith)
 dereference_argument-under k B b n (var i) s l (h, v) (unbound m) e = let u = dereference_in-unbound (suc (b + i)) B (b + i) m s.falls (omega arith) e in omega (arith, u.low)
 

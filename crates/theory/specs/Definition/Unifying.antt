@@ -25,6 +25,7 @@ bound_once-snoc (x ∷ B) b e (h, d) = go (eqb b.number x.number) refl (bound_on
 pub made-sane : (B M : List Binding) → Made B M → Sane B → Sane (B ++ M)
 unfolding lookup
 made-sane B [] nothing s = rw append-nil s
+made-sane B (b ∷ (c ∷ M)) m s = elim m [ ]
 made-sane B (b ∷ []) (one e f) s = record { falls = λ n m q. go n m q (lookup B n) refl; bound_once = bound_once-snoc B b e s.bound_once }
   where
     new : (n m : ℕ) → lookup (b ∷ []) n ≡ some (ref m) → (t : Bool) → eqb n b.number ≡ t → m < n

@@ -146,6 +146,8 @@ module _ (A : Place) where
 
       join : (M : List Binding) (W' : Work) → PairFits A B M W W' → (x : Option (List Binding)) (y : Option Work) → HeadAgrees A (B ++ M) W' x y → HeadAgrees A B W x y
       join M W' f none none heads-fail = heads-fail
+      join M W' f none (some X) h = elim h [ ]
+      join M W' f (some B') none h = elim h [ ]
       join M W' f (some B') (some X) (heads-fit a) =
           heads-fit (record {
             made = M ++ a.made;
@@ -159,6 +161,8 @@ module _ (A : Place) where
           → ((M : List Binding) (W' : Work) → Sane (B ++ M) → Represents A (B ++ M) W'.store → HeadAgrees A (B ++ M) W' (unify_head (B ++ M) base hs goal_base gs) (unify_head_stored A.number base W' head_cell hs goal_cell gs))
           → HeadAgrees A B W (elim x [ none ↦ none | some M ↦ unify_head (B ++ M) base hs goal_base gs ]) (elim y [ none ↦ none | some W' ↦ unify_head_stored A.number base W' head_cell hs goal_cell gs ])
       go none q none pairs-fail ih = heads-fail
+      go none q (some W') h ih = elim h [ ]
+      go (some M) q none h ih = elim h [ ]
       go (some M) q (some W') (pairs-fit f) ih =
           let m = unify-made B base (dereference_argument B base h) (dereference_argument B goal_base g) (dereference_argument-shows B base h s (dereference_argument B base h) refl) (dereference_argument-shows B goal_base g s (dereference_argument B goal_base g) refl) M q in
           join M W' f (unify_head (B ++ M) base hs goal_base gs) (unify_head_stored A.number base W' head_cell hs goal_cell gs) (ih M W' (made-sane B M m s) f.rep)
