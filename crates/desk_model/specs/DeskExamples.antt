@@ -9,7 +9,7 @@ use Rattle.model.specs.Goals.{past_head, goal_place, next_goal, child_goal}
 use Rattle.model.specs.Terms.{found_said, dereference, argument_of, bind, pairing, unify_pair, unify_words, unify_head}
 use Rattle.model.specs.Steps.{live, child_from, another_from, free_from, undone, left_for, freed, dead_rule, raised, laid, goal_fields, arrival, grown, failed, succeeded, taken, head_store, take_clause, live_rule, node_rule, step, run_from, run}
 use Rattle.model.specs.Moves.{loaded, place_of, with_number, answer_word, seen_with_found, answer_from, answer}
-use Rattle.model.specs.WordExamples.{same_list}
+use Rattle.model.proofs.WordExamples.{same_list}
 use Rattle.desk_model.specs.Lines.{digits, decimal, spaced, value_text, value_texts, answer_line, ending_name, ending_line, refused_name, refused_line}
 use Rattle.desk_model.specs.Desk.{file_parts, stop_of, advanced, stop_line, lines_from, search_listing, parts_listing, listing}
 

@@ -7,7 +7,7 @@ use Rattle.model.specs.Fields.{widths_of, total, below, field, join}
 use Rattle.model.specs.Rules.{con, var, call, Clause, Predicate, Rules}
 use Rattle.model.specs.Encoding.{encode_arg, encode_goal, encode_body, encode_clause, encode_clauses, encode_mark, encode_predicates, encoded_length, encode, encode_query, seen_with, seen_after, goal_args, clause_args, arity_of, WellFormedArg, WellFormedGoal, WellFormedClause, WellFormedPred, WellFormed, WellFormedQuery}
 use Rattle.model.specs.Decoding.{goal_next, clause_next, decode_arg, decode_args, decode_goal, decode_goals, decode_clause, decode_clauses, decode_predicate, decode_predicates, decode, decode_query}
-use Rattle.model.specs.Examples.{desk_image}
+use Rattle.model.proofs.Examples.{desk_image}
 
 -- a fact with one constant
 abbrev fact : ℕ → Clause

@@ -8,7 +8,7 @@ use Rattle.model.specs.Goals.{past_head, goal_place, next_goal, child_goal}
 use Rattle.model.specs.Terms.{found_said, dereference, argument_of, bind, pairing, unify_pair, unify_words, unify_head}
 use Rattle.model.specs.Steps.{view_of, with_view, live, child_from, another_from, free_from, undone, left_for, freed, dead_rule, raised, laid, goal_fields, arrival, grown, failed, succeeded, taken, head_store, take_clause, live_rule, node_rule, step}
 use Rattle.model.specs.Moves.{loaded, meeting, installed, climbed, legs, move, place_of, with_number, answer_word, seen_with_found, answer_from, answer}
-use Rattle.model.specs.Examples.{desk_image}
+use Rattle.model.proofs.Examples.{desk_image}
 
 -- what is done with a loaded memory, and what must be seen
 pub data Doing : Type 0 where

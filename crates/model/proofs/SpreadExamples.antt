@@ -6,7 +6,7 @@ use Rattle.model.specs.declared.Scan.TheVariants.{Through, Stopped}
 use Rattle.model.specs.declared.Written.TheVariants.{Done, Refused}
 use Rattle.model.specs.Fields.{widths_of, kept_fields, total, below, field}
 use Rattle.model.specs.Image.{variable_at, argument, arguments, goal_word, goal, goals, clause_word, clause_end, clause, clauses, predicate, predicates, header, ending, image_walk, check_image}
-use Rattle.model.specs.Examples.{desk_image}
+use Rattle.model.proofs.Examples.{desk_image}
 use Rattle.model.specs.Spread.{spread_fields, spread_word, join_fields, packed_word, group_size, known_op, kind_of_op, kind_at, unpacked_from, unpacked, judged, op_known, judged_group, scan_from, scan, packed_from, packed, written_to, write_out, pack, unpack}
 
 -- header, predicate, then twice a CLAUSE and a CON
