@@ -11,10 +11,11 @@ use Rattle.model.specs.Image.{onward, clause, clauses}
 use Rattle.model.specs.Rules.{Clause, Rules}
 use Rattle.model.specs.Encoding.{Words, Each, encode_clause, WellFormedClause}
 use Rattle.model.specs.Decoding.{decode_clause, decode_clauses, clause_next}
-use Rattle.meaning.specs.Stands.{Stands, stands-append, stands-left, stands-right}
-use Rattle.meaning.specs.Walks.{onward-passed}
-use Rattle.meaning.specs.Goals.{Declares}
-use Rattle.meaning.specs.Clauses.{clause-here, clause-decode, clause-complete, clause-sound}
+use Rattle.meaning.specs.Stands.{Stands}
+use Rattle.meaning.proofs.Stands.{stands-append, stands-left, stands-right}
+use Rattle.meaning.proofs.Walks.{onward-passed}
+use Rattle.meaning.proofs.Goals.{Declares}
+use Rattle.meaning.proofs.Clauses.{clause-here, clause-decode, clause-complete, clause-sound}
 
 pub length-decode_clauses : (count : ℕ) (image : List ℕ) (head_arity at : ℕ) → length (decode_clauses count image head_arity at) ≡ count
 unfolding decode_clauses

@@ -11,8 +11,9 @@ use Rattle.model.specs.Encoding.{Word, Words, encode_arg, WellFormedArg, seen_wi
 use Rattle.model.specs.Decoding.{decode_arg, decode_args}
 use Rattle.words.specs.FieldLaws.{field-join, field_lt, fields_from, join-field}
 use Rattle.meaning.specs.Stands.{Stands}
-use Rattle.meaning.specs.Walks.{cond-held, onward-passed}
-use Rattle.meaning.specs.Reading.{Read, read-append, read_left, read_right}
+use Rattle.meaning.proofs.Walks.{cond-held, onward-passed}
+use Rattle.meaning.specs.Reading.{Read}
+use Rattle.meaning.proofs.Reading.{read-append, read_left, read_right}
 
 -- the fields of a VAR word
 pub record VarFields (word number : ℕ) : Type 0 where

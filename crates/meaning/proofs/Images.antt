@@ -16,11 +16,12 @@ use Rattle.model.specs.Rules.{Rules}
 use Rattle.model.specs.Encoding.{Words, encode_clauses, encode_predicates, encoded_length, encode, WellFormed}
 use Rattle.model.specs.Decoding.{decode_predicates, decode}
 use Rattle.words.specs.FieldLaws.{field_lt}
-use Rattle.meaning.specs.Stands.{Stands, stands-append, stands-left, stands-right, stands-within, stands-whole, stands-behind}
-use Rattle.meaning.specs.Walks.{cond-failed, onward-passed}
-use Rattle.meaning.specs.Goals.{Declares}
-use Rattle.meaning.specs.Predicates.{PredicatesStand, predicates-complete, predicates-decode, predicates-sound}
-use Rattle.meaning.specs.Headers.{HeaderFields, HeaderFound, header-fields, header-word, header-complete, header-sound, arity_of-narrow, arity_of-encoded, declares-decoded}
+use Rattle.meaning.specs.Stands.{Stands}
+use Rattle.meaning.proofs.Stands.{stands-append, stands-left, stands-right, stands-within, stands-whole, stands-behind}
+use Rattle.meaning.proofs.Walks.{cond-failed, onward-passed}
+use Rattle.meaning.proofs.Goals.{Declares}
+use Rattle.meaning.proofs.Predicates.{PredicatesStand, predicates-complete, predicates-decode, predicates-sound}
+use Rattle.meaning.proofs.Headers.{HeaderFields, HeaderFound, header-fields, header-word, header-complete, header-sound, arity_of-narrow, arity_of-encoded, declares-decoded}
 
 pub length-encode_predicates : (at : ℕ) (all : Rules) → length (encode_predicates at all) ≡ length all
 unfolding encode_predicates

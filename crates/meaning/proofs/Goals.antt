@@ -20,9 +20,10 @@ use Rattle.model.specs.Encoding.{Word, Words, Each, encode_arg, encode_call, enc
 use Rattle.model.specs.Decoding.{decode_args, goal_next, decode_goal, decode_goals}
 use Rattle.words.specs.FieldLaws.{field-join, fields_from, join-field}
 use Rattle.meaning.specs.Stands.{Stands}
-use Rattle.meaning.specs.Walks.{cond-held, onward-passed}
-use Rattle.meaning.specs.Reading.{Read, read-append, read_left, read_right}
-use Rattle.meaning.specs.Arguments.{arguments-complete, arguments-decode, arguments_sound, length-decode_args}
+use Rattle.meaning.proofs.Walks.{cond-held, onward-passed}
+use Rattle.meaning.specs.Reading.{Read}
+use Rattle.meaning.proofs.Reading.{read-append, read_left, read_right}
+use Rattle.meaning.proofs.Arguments.{arguments-complete, arguments-decode, arguments_sound, length-decode_args}
 
 -- what an image says of a program's predicates where a goal is judged: how many there are, and their arities
 pub record Declares (image : List ℕ) (program : Rules) : Type 0 where

@@ -9,13 +9,13 @@ use Rattle.model.specs.Rules.{Argument, con, var, Goal, call, Clause, Rules}
 use Rattle.model.specs.Encoding.{Word, Words, Each, encode_arg, encode_goal, encode_body, encode_clause, encode_clauses, encode_mark, encode_predicates, encoded_length, encode, goal_args, clause_args, seen_with, seen_after, WellFormedArgs, WellFormedGoal, WellFormedClause, WellFormedPred, WellFormed, WellFormedQuery, encode_query}
 use Rattle.model.specs.Decoding.{decode}
 use Rattle.words.specs.FieldLaws.{join-lt}
-use Rattle.meaning.specs.Stands.{stands-behind}
-use Rattle.meaning.specs.Reading.{seen_after-grows}
-use Rattle.meaning.specs.Goals.{Declares}
-use Rattle.meaning.specs.Clauses.{clause-short}
-use Rattle.meaning.specs.Predicates.{mark-lt}
-use Rattle.meaning.specs.Headers.{declares-decoded}
-use Rattle.meaning.specs.Images.{encode-fits, encode-parts, declares-encoded}
+use Rattle.meaning.proofs.Stands.{stands-behind}
+use Rattle.meaning.proofs.Reading.{seen_after-grows}
+use Rattle.meaning.proofs.Goals.{Declares}
+use Rattle.meaning.proofs.ClauseLengths.{clause-short}
+use Rattle.meaning.proofs.Predicates.{mark-lt}
+use Rattle.meaning.proofs.Headers.{declares-decoded}
+use Rattle.meaning.proofs.Images.{encode-fits, encode-parts, declares-encoded}
 
 each_append : {A : Type 0} (Good : A → Type 0) (first second : List A) → Each Good first → Each Good second → Each Good (first ++ second)
 each_append Good [] second h k = k

@@ -1,48 +1,39 @@
--- Clauses: the walk over one finds no fault exactly where the encoding of a well-formed clause stands, and decoding gives it back. Document 01, "Rule image", CLAUSE, faults 6, 8, 9, 10, 15 and 16.
--- A clause's length fits its 16 bits: at most 16 goals, each with at most 15 arguments, make at most 272 words. Assumes nothing.
+-- Clauses: the walk over one finds no fault exactly where the encoding of a well-formed clause stands, and decoding gives it back. Document 01, "Rule image", CLAUSE, faults 6, 8, 9, 10, 15 and 16. Assumes nothing.
 use Rattle.std.specs.Prelude.{◌≡◌}
 use Rattle.std.proofs.Math.Path.{sym, ap}
 use Rattle.std.proofs.Common.{◌∙◌}
-use mathlib.Core.List.{List, [], ◌∷◌, ◌++◌, map, flat_map}
-use Prim.Native.Nat.{ℕ, suc, ◌+◌, ◌*◌, ◌≤◌, ◌<◌}
+use mathlib.Core.List.{List, ◌++◌, map, flat_map}
+use Prim.Native.Nat.{ℕ, suc, ◌+◌, ◌≤◌, ◌<◌}
 use native.Mathlib.Omega.{arith}
-use Rattle.std.proofs.Math.ListN.{length, get_or, length-append, length-map}
+use Rattle.std.proofs.Math.ListN.{length, get_or, length-map}
 use Rattle.model.specs.declared.Walk.TheVariants.{On}
 use Rattle.model.specs.Fields.{variables, goal_count, clause_length}
 use Rattle.model.specs.Image.{onward, arguments, goals, clause_word, clause_end, clause}
-use Rattle.model.specs.Rules.{Goal, call, Clause, Rules}
+use Rattle.model.specs.Rules.{Clause, Rules}
 use Rattle.model.specs.Encoding.{Word, Words, Each, encode_arg, encode_goal, encode_body, encode_clause, goal_args, clause_args, seen_after, WellFormedGoal, WellFormedClause}
 use Rattle.model.specs.Decoding.{decode_args, decode_goals, decode_clause}
 use Rattle.meaning.specs.Stands.{Stands}
-use Rattle.meaning.specs.Walks.{onward-passed}
-use Rattle.meaning.specs.Reading.{Read, read-append, read_left, read_right}
-use Rattle.meaning.specs.ClauseWords.{ClauseFields, clause-fields, clause-word, ClauseFound, clause_word-sound, EndFound, clause_end-sound, clause_word-complete, clause_end-complete}
-use Rattle.meaning.specs.Arguments.{arguments-complete, arguments-decode, arguments_sound, length-decode_args}
-use Rattle.meaning.specs.Goals.{Declares, goals-complete, goals-decode, goals-sound, length-decode_goals}
+use Rattle.meaning.proofs.Walks.{onward-passed}
+use Rattle.meaning.specs.Reading.{Read}
+use Rattle.meaning.proofs.Reading.{read-append, read_left, read_right}
+use Rattle.meaning.specs.ClauseWords.{ClauseFields}
+use Rattle.meaning.proofs.ClauseWords.{clause-fields, clause-word, ClauseFound, clause_word-sound, EndFound, clause_end-sound, clause_word-complete, clause_end-complete}
+use Rattle.meaning.proofs.Arguments.{arguments-complete, arguments-decode, arguments_sound, length-decode_args}
+use Rattle.meaning.proofs.ClauseLengths.{clause-short}
+use Rattle.meaning.proofs.Goals.{Declares, goals-complete, goals-decode, goals-sound, length-decode_goals}
 
 pub clause-there : (words : List ℕ) (one : Clause) (at : ℕ) → Stands words at (encode_clause one) → at < length words
 unfolding encode_clause
 clause-there words one at h = h.0
 
 module _ {image : List ℕ} {program : Rules} (known : Declares image program) (head_arity : ℕ) (narrow : head_arity ≤ 15) where
-  goals-short : (all : List Goal) → Each (WellFormedGoal program) all → length (flat_map encode_goal all) ≤ 16 * length all
-  unfolding flat_map encode_goal
-  goals-short [] good = omega arith
-  goals-short (call predicate args ∷ all) good =
-      simp length-append (omega (arith, length-map args encode_arg, good.0.1, known.narrow predicate, goals-short all good.1))
-
-  pub clause-short : (one : Clause) → WellFormedClause program head_arity one → length (encode_clause one) ≤ 257 + head_arity
-  unfolding encode_clause encode_body
-  clause-short one good =
-      simp length-append (omega (arith, length-map one.head encode_arg, good.heads, goals-short one.goals good.calls, good.goal_count))
-
   module _ (words : List ℕ) where
     -- what is read where a clause's encoding stands
     pub clause-here : (one : Clause) (at : ℕ) → WellFormedClause program head_arity one → Stands words at (encode_clause one)
         → ClauseFields (get_or words at 0) one.variables (length one.goals) (length (encode_clause one))
     unfolding encode_clause
     clause-here one at good h =
-        rw h.1 (clause-fields one.variables (length one.goals) (suc (length (encode_body one))) good.variables good.goal_count (omega (arith, clause-short one good)))
+        rw h.1 (clause-fields one.variables (length one.goals) (suc (length (encode_body one))) good.variables good.goal_count (omega (arith, clause-short known head_arity narrow one good)))
 
     -- its arguments, head first, as the walk meets them
     clause-body : (one : Clause) (at : ℕ) → WellFormedClause program head_arity one → Stands words at (encode_clause one)

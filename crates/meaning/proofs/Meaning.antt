@@ -10,15 +10,18 @@ use Rattle.model.specs.Image.{predicate_word, check_image, check_query}
 use Rattle.model.specs.Rules.{Clause, Predicate, Rules}
 use Rattle.model.specs.Encoding.{Words, encode, encode_query, WellFormed, WellFormedQuery}
 use Rattle.model.specs.Decoding.{clause_at, decode_clause, decode_predicate, decode, decode_query}
-use Rattle.meaning.specs.Stands.{Stands, stands-behind}
-use Rattle.meaning.specs.Clauses.{clause-short}
-use Rattle.meaning.specs.Decoded.{decode-at, clauses-decoded-at}
-use Rattle.meaning.specs.ClausePlaces.{ClausePlace, clause-place}
-use Rattle.meaning.specs.Headers.{declares-decoded}
-use Rattle.meaning.specs.Images.{image-complete, image-decode, image-sound, length-encode, encode-parts}
-use Rattle.meaning.specs.Queries.{query-image, query-complete, query-decode, query-sound}
-use Rattle.meaning.specs.EncodedWords.{encode-words, encode_query-words}
-use Rattle.meaning.specs.PredicatePlaces.{PredicatePlace, predicate-place}
+use Rattle.meaning.specs.Stands.{Stands}
+use Rattle.meaning.proofs.Stands.{stands-behind}
+use Rattle.meaning.proofs.ClauseLengths.{clause-short}
+use Rattle.meaning.proofs.Decoded.{decode-at, clauses-decoded-at}
+use Rattle.meaning.specs.ClausePlaces.{ClausePlace}
+use Rattle.meaning.proofs.ClausePlaces.{clause-place}
+use Rattle.meaning.proofs.Headers.{declares-decoded}
+use Rattle.meaning.proofs.Images.{image-complete, image-decode, image-sound, length-encode, encode-parts}
+use Rattle.meaning.proofs.Queries.{query-image, query-complete, query-decode, query-sound}
+use Rattle.meaning.proofs.EncodedWords.{encode-words, encode_query-words}
+use Rattle.meaning.specs.PredicatePlaces.{PredicatePlace}
+use Rattle.meaning.proofs.PredicatePlaces.{predicate-place}
 
 -- an image is legal exactly if it is the encoding of a well-formed rule set
 pub legal-encodes : (image : List ℕ) → Words image → (check_image image ≡ Legal) ↔ ((program : Rules) × WellFormed program × (encode program ≡ image))

@@ -13,9 +13,9 @@ use Rattle.model.specs.Encoding.{Word, Each, arity_of, encode_clauses, encode_pr
 use Rattle.model.specs.Decoding.{decode, decode_predicate, decode_predicates}
 use Rattle.words.specs.FieldLaws.{field-join, field_lt, fields_from, join-field}
 use Rattle.meaning.specs.Stands.{Stands}
-use Rattle.meaning.specs.Walks.{cond-held, cond-failed}
-use Rattle.meaning.specs.Goals.{Declares}
-use Rattle.meaning.specs.Predicates.{predicate-fields}
+use Rattle.meaning.proofs.Walks.{cond-held, cond-failed}
+use Rattle.meaning.proofs.Goals.{Declares}
+use Rattle.meaning.proofs.Predicates.{predicate-fields}
 
 -- the fields of a header
 pub record HeaderFields (word count size : ℕ) : Type 0 where

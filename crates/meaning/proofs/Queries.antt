@@ -8,11 +8,11 @@ use Rattle.model.specs.Image.{clause, ending, query_walk, verdict, if_legal, che
 use Rattle.model.specs.Rules.{Clause}
 use Rattle.model.specs.Encoding.{Words, encode_clause, encode_query, WellFormedQuery}
 use Rattle.model.specs.Decoding.{decode, decode_clause, decode_query}
-use Rattle.meaning.specs.Stands.{stands-within, stands-whole, stands-behind}
-use Rattle.meaning.specs.Walks.{onward-passed}
-use Rattle.meaning.specs.Clauses.{clause-decode, clause-complete, clause-sound}
-use Rattle.meaning.specs.Headers.{declares-decoded}
-use Rattle.meaning.specs.Images.{verdict-legal, ending-complete, ending-sound}
+use Rattle.meaning.proofs.Stands.{stands-within, stands-whole, stands-behind}
+use Rattle.meaning.proofs.Walks.{onward-passed}
+use Rattle.meaning.proofs.Clauses.{clause-decode, clause-complete, clause-sound}
+use Rattle.meaning.proofs.Headers.{declares-decoded}
+use Rattle.meaning.proofs.Images.{verdict-legal, ending-complete, ending-sound}
 
 -- the image is judged first
 if_legal-both : (first next : Verdict) → if_legal first next ≡ Legal → (first ≡ Legal) × (next ≡ Legal)
