@@ -20,8 +20,8 @@ use Rattle.memory.proofs.FieldBounds.{arity-lt, parent-lt, depth-lt}
 use Rattle.meaning.proofs.Decoded.{decode-at}
 use Rattle.meaning.specs.ClausePlaces.{GoalPlace, ClausePlace}
 use Rattle.meaning.proofs.Meaning.{legal-query-image, legal-places, legal-clauses, legal-query-places}
-use Rattle.paths.specs.Held.{four-held}
-use Rattle.paths.specs.Slots.{links-held, linked-parent, root-clause}
+use Rattle.paths.proofs.Held.{four-held}
+use Rattle.paths.proofs.Slots.{links-held, linked-parent, root-clause}
 use Rattle.paths.specs.Ancestors.{OnPath}
 use Rattle.undoing.specs.Frames.{path-either, frame-on-path}
 use Rattle.undoing.specs.GoalPlaces.{goal-found}

@@ -11,9 +11,10 @@ use Rattle.std.proofs.lemmas.Bool.{eqb-false}
 use Rattle.model.specs.Memory.{used, parent, depth, entries, cell_of, number_at, value_at}
 use Rattle.model.specs.Moves.{Leg, leg, installed, climbed}
 use Rattle.model.specs.Damage.{path_array, same_words}
-use Rattle.paths.specs.Held.{all_held}
+use Rattle.paths.proofs.Held.{all_held}
 use Rattle.paths.specs.Slots.{Links}
-use Rattle.paths.specs.Ancestors.{OnPath, Ancestor, ancestor, path-self, path_parent}
+use Rattle.paths.specs.Ancestors.{OnPath, Ancestor}
+use Rattle.paths.proofs.Ancestors.{ancestor, path-self, path_parent}
 
 replicate-zero : (count k : ℕ) → ◌≡◌ {A = ℕ} (get_or (replicate count 0) k 0) 0
 replicate-zero zero k = refl
