@@ -1,17 +1,6 @@
 pub mod Stands
-pub mod Walks
 pub mod Reading
-pub mod Arguments
-pub mod Goals
 pub mod ClauseWords
-pub mod Clauses
-pub mod ClauseLists
 pub mod Predicates
-pub mod Headers
-pub mod Images
-pub mod Queries
 pub mod ClausePlaces
 pub mod PredicatePlaces
-pub mod EncodedWords
-pub mod Decoded
-pub mod Meaning

@@ -1,3 +1,2 @@
-// No code: what a legal image means, as theorems in `specs/`.
+// No code: what a legal image means, as theorems in `proofs/`.
 #![tactic(auto)]
-

@@ -1,8 +1,7 @@
 -- The calls with the order of their refusals: document 01, "Refused calls": "20 a lent slice has the wrong length; image; query; 21 damaged; 22 worker above 3;
 -- then 23 (move: slot above 63 or free), 24, 25 (read: not at a node without goals), 26 (read: room below the variable count)".
 -- A refusal and an outcome are kept apart: their numbers overlap. Full at a step is the outcome Full, and changes nothing. Assumes nothing.
-use Rattle.std.specs.Prelude.{Bool, true, false, cond, not, ◌&&◌, ◌||◌, List, ◌++◌, ℕ, eqb, ltb, leb, length, get_or, drop}
-use Rattle.model.specs.declared.Refusal.{Refusal}
+use Rattle.std.specs.Prelude.{Bool, cond, ◌&&◌, List, ◌++◌, ℕ, eqb, ltb, leb, length, get_or, drop}
 use Rattle.model.specs.declared.Refusal.TheVariants.{SliceLength, Damaged, NoWorker, NoSlot, NoAnswer, Room}
 use Rattle.model.specs.declared.Verdict.{Verdict}
 use Rattle.model.specs.declared.Verdict.TheVariants.{Legal, Refused}

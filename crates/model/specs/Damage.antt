@@ -2,7 +2,7 @@
 -- Where the page is silent: a REF is to a variable with a lower number than the variable that holds it; "on the path" is the path from the root to the slot that
 -- holds the cell or entry, that slot included, and the cell named is one of that slot's variables; "different along a path" holds inside one slot too;
 -- a worker's word of 64 or more is no slot. The lengths are right, image and query legal. Assumes nothing.
-use Rattle.std.specs.Prelude.{Bool, true, false, cond, not, ◌&&◌, ◌||◌, List, [], ◌∷◌, ℕ, zero, suc, ◌+◌, ◌-◌, ◌*◌, ◌/◌, ◌%◌, eqb, ltb, leb, get_or, replicate}
+use Rattle.std.specs.Prelude.{Bool, true, false, cond, not, ◌&&◌, ◌||◌, List, ℕ, zero, suc, ◌+◌, ◌-◌, ◌*◌, ◌/◌, ◌%◌, eqb, ltb, leb, get_or, replicate}
 use Rattle.model.specs.declared.Kind.TheVariants.{Node0, Node1, Node2}
 use Rattle.model.specs.declared.FirstGoal.{FirstGoal}
 use Rattle.model.specs.declared.FirstGoal.TheVariants.{NoGoal, Goal}

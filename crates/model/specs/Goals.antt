@@ -3,7 +3,7 @@
 use Rattle.std.specs.Prelude.{true, false, cond, List, ℕ, zero, suc, ◌+◌, eqb, ltb, get_or}
 use Rattle.model.specs.declared.FirstGoal.{FirstGoal}
 use Rattle.model.specs.declared.FirstGoal.TheVariants.{NoGoal, Goal}
-use Rattle.model.specs.Fields.{op, goal_count, goal_predicate}
+use Rattle.model.specs.Fields.{op, goal_count}
 use Rattle.model.specs.Decoding.{goal_from}
 use Rattle.model.specs.Memory.{parent, clause_position, frame, goal_index, depth}
 

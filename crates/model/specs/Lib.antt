@@ -18,9 +18,4 @@ pub mod Steps
 pub mod Moves
 pub mod Damage
 pub mod Calls
-pub mod WordExamples
-pub mod Examples
-pub mod SpreadExamples
-pub mod RuleExamples
 pub mod Cases
-pub mod Tried

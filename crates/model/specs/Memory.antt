@@ -1,6 +1,6 @@
 -- The shared memory as words: document 01, "Shared memory". Reading past the end gives 0 and storing past the end does nothing,
 -- so that every definition holds for all words and lengths. Assumes nothing.
-use Rattle.std.specs.Prelude.{List, [], ◌∷◌, ◌++◌, ℕ, suc, zero, ◌+◌, ◌*◌, ◌%◌, ◌^◌, get_or, set, take, drop, replicate}
+use Rattle.std.specs.Prelude.{List, [], ◌∷◌, ◌++◌, ℕ, suc, zero, ◌+◌, ◌*◌, ◌%◌, ◌^◌, get_or, set, take, drop}
 use Rattle.model.specs.declared.Kind.{Kind}
 use Rattle.model.specs.declared.Kind.TheVariants.{Node0, Node1, Node2, Value}
 use Rattle.model.specs.Fields.{widths_of, field, join}

@@ -1,5 +1,5 @@
 -- Load, moves and reading an answer, on words: document 01, "The steps", last paragraph, "Shared memory" on the root, and "Refused calls" on load. Assumes nothing.
-use Rattle.std.specs.Prelude.{Bool, true, false, cond, List, [], ◌∷◌, ◌++◌, ℕ, zero, suc, ◌+◌, ◌*◌, eqb, ltb, length, get_or, set, replicate}
+use Rattle.std.specs.Prelude.{true, false, cond, List, [], ◌∷◌, ◌++◌, ℕ, zero, suc, ◌+◌, eqb, ltb, length, get_or, set, replicate}
 use Rattle.model.specs.declared.Kind.TheVariants.{Node0, Node2, Con, Var}
 use Rattle.model.specs.declared.Found.{Found}
 use Rattle.model.specs.declared.Found.TheVariants.{Unbound, Constant}

@@ -1,3 +1,2 @@
-// No code: what sound memory says of the variables on a path, as theorems in `specs/`.
+// No code: what sound memory says of the variables on a path, as theorems in `proofs/`.
 #![tactic(auto)]
-

@@ -1,6 +1,4 @@
-pub mod Kit
 pub mod Tree
 pub mod Machine
 pub mod Definition
 pub mod Memory
-pub mod Theorems

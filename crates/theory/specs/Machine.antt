@@ -1,11 +1,1 @@
 pub mod Invariants
-pub mod Tests
-pub mod Steps
-pub mod Runs
-pub mod Calls
-pub mod Finished
-pub mod Lone
-pub mod LoneSteps
-pub mod Order
-pub mod Unique
-pub mod Depth

@@ -1,2 +1,2 @@
-// Facts about the definitions of `model`; all of them stand in the specifications.
+// No code: facts about the definitions of `model`, as theorems in `proofs/`; what they speak of stands in `specs/`.
 #![tactic(auto)]

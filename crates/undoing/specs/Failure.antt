@@ -9,7 +9,7 @@ use Rattle.model.specs.Memory.{tag, value, vno_word, first_of, cell_of, number_a
 use Rattle.model.specs.Terms.{Store, unify_head}
 use Rattle.model.specs.Steps.{undone, laid}
 use Rattle.terms.proofs.HeadLaws.{counted}
-use Rattle.paths.specs.Values.{zero-tag, vno-fields}
+use Rattle.paths.proofs.Values.{zero-tag, vno-fields}
 use Rattle.undoing.specs.OwnCells.{cleared-laid, laid-other, laid-own}
 use Rattle.undoing.specs.Reached.{Kept, KeptAt}
 use Rattle.undoing.specs.Entries.{OwnCell, Undoable, unify_head-undoable}

@@ -17,9 +17,9 @@ use Rattle.model.specs.Encoding.{Words}
 use Rattle.model.specs.Memory.{Memory, used, parent, depth, own_variables, has_goal, frame, goal_index, tried}
 use Rattle.model.specs.Goals.{goals_of, next_goal, child_goal}
 use Rattle.model.specs.Damage.{called_word, clause_of, rule_goal, without_goal, with_goal, goal_sound, base_sound, node_sound, sound}
-use Rattle.meaning.specs.Meaning.{legal-query-decodes, legal-query-places}
-use Rattle.paths.specs.Held.{three-held, four-held}
-use Rattle.paths.specs.Slots.{slot_held, root-clause}
+use Rattle.meaning.proofs.Meaning.{legal-query-decodes, legal-query-places}
+use Rattle.paths.proofs.Held.{three-held, four-held}
+use Rattle.paths.proofs.Slots.{slot_held, root-clause}
 
 -- what a slot's fields say of its first goal: its index is below its clause's goals, and the count of tried clauses at most its predicate's
 pub record Indexed (image query nodes : List ℕ) (slot : ℕ) : Type 0 where

@@ -16,9 +16,11 @@ use Rattle.model.specs.Memory.{Memory, used, parent, depth, own_variables, has_g
 use Rattle.model.specs.Goals.{goals_of, next_goal, child_goal}
 use Rattle.model.specs.Damage.{called_word, clause_of, rule_goal, without_goal, with_goal, goal_sound, base_sound, node_sound, on_path, sound}
 use Rattle.memory.proofs.FieldBounds.{parent-lt, depth-lt}
-use Rattle.paths.specs.Held.{three-held, four-held}
-use Rattle.paths.specs.Slots.{Links, slot_held, links-held}
-use Rattle.paths.specs.Ancestors.{OnPath, ancestor, path-self, path-up, path_parent}
+use Rattle.paths.proofs.Held.{three-held, four-held}
+use Rattle.paths.specs.Slots.{Links}
+use Rattle.paths.proofs.Slots.{slot_held, links-held}
+use Rattle.paths.specs.Ancestors.{OnPath}
+use Rattle.paths.proofs.Ancestors.{ancestor, path-self, path-up, path_parent}
 
 -- every slot on the path to a slot has its frame on its own path
 abbrev Framed : List ℕ → ℕ → Type 0

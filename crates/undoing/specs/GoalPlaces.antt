@@ -13,8 +13,8 @@ use Rattle.model.specs.Encoding.{encode_arg, encode_goal, goal_args}
 use Rattle.model.specs.Decoding.{decode_arg, goal_from, goal_at, decode}
 use Rattle.model.specs.Goals.{past_head, goal_place}
 use Rattle.meaning.specs.Reading.{ArgBelow}
-use Rattle.meaning.specs.Goals.{goal-fields}
-use Rattle.meaning.specs.Headers.{declares-decoded}
+use Rattle.meaning.proofs.Goals.{goal-fields}
+use Rattle.meaning.proofs.Headers.{declares-decoded}
 use Rattle.meaning.specs.ClausePlaces.{ArgPlace, GoalPlace, ClausePlace}
 
 -- an element of a list by its index

@@ -17,11 +17,11 @@ use Rattle.model.specs.Goals.{clause_words}
 use Rattle.model.specs.Steps.{goal_of, predicate_of}
 use Rattle.model.specs.Damage.{called_word, among_clauses, linked, sound}
 use Rattle.memory.proofs.FieldBounds.{arity-lt, parent-lt, depth-lt}
-use Rattle.meaning.specs.Decoded.{decode-at}
+use Rattle.meaning.proofs.Decoded.{decode-at}
 use Rattle.meaning.specs.ClausePlaces.{GoalPlace, ClausePlace}
-use Rattle.meaning.specs.Meaning.{legal-query-image, legal-places, legal-clauses, legal-query-places}
-use Rattle.paths.specs.Held.{four-held}
-use Rattle.paths.specs.Slots.{links-held, linked-parent, root-clause}
+use Rattle.meaning.proofs.Meaning.{legal-query-image, legal-places, legal-clauses, legal-query-places}
+use Rattle.paths.proofs.Held.{four-held}
+use Rattle.paths.proofs.Slots.{links-held, linked-parent, root-clause}
 use Rattle.paths.specs.Ancestors.{OnPath}
 use Rattle.undoing.specs.Frames.{path-either, frame-on-path}
 use Rattle.undoing.specs.GoalPlaces.{goal-found}

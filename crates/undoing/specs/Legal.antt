@@ -10,9 +10,9 @@ use Rattle.model.specs.Encoding.{Words}
 use Rattle.model.specs.Memory.{Memory, used, has_goal, frame, tried, array_of}
 use Rattle.model.specs.Steps.{view, view_of, predicate_of, live, raised, step}
 use Rattle.model.specs.Damage.{sound}
-use Rattle.meaning.specs.Meaning.{legal-query-image, legal-clauses}
-use Rattle.paths.specs.Slots.{worker-stands, links-held}
-use Rattle.paths.specs.Ancestors.{ancestor}
+use Rattle.meaning.proofs.Meaning.{legal-query-image, legal-clauses}
+use Rattle.paths.proofs.Slots.{worker-stands, links-held}
+use Rattle.paths.proofs.Ancestors.{ancestor}
 use Rattle.undoing.specs.Frames.{frame-on-path}
 use Rattle.undoing.specs.Failing.{tried-failing}
 use Rattle.undoing.specs.Tried.{Judged, tried-only-counts}

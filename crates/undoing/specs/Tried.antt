@@ -13,11 +13,11 @@ use Rattle.model.specs.Goals.{clause_words}
 use Rattle.model.specs.Steps.{view, view_of, goal_of, predicate_of, lowest_free, undone, raised, failed, head_store, step}
 use Rattle.model.specs.Damage.{on_path, path_array, same_words, sound}
 use Rattle.memory.proofs.FieldBounds.{arity-lt, base-lt, frame-lt, own_variables-lt}
-use Rattle.paths.specs.Slots.{worker-stands, entry-held, links-held, free-blank}
+use Rattle.paths.proofs.Slots.{worker-stands, entry-held, links-held, free-blank}
 use Rattle.paths.specs.Ancestors.{Ancestor}
 use Rattle.paths.specs.Values.{Reach}
-use Rattle.paths.specs.Arrays.{array-says}
-use Rattle.paths.specs.Paths.{path-closed}
+use Rattle.paths.proofs.Arrays.{array-says}
+use Rattle.paths.proofs.Paths.{path-closed}
 use Rattle.undoing.specs.Failure.{PathCell, Ready, failure-undone}
 use Rattle.undoing.specs.Frames.{frame-on-path}
 use Rattle.undoing.specs.Failing.{clause_taken, head_tried, lowest-free, tried-failing}

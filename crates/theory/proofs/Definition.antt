@@ -1,0 +1,6 @@
+pub mod Laws
+pub mod Lookup
+pub mod NodeNumbers
+pub mod Nodes
+pub mod Numbers
+pub mod Unifying

@@ -1,0 +1,4 @@
+pub mod Bounded
+pub mod ClausePaths
+pub mod Maps
+pub mod Pigeon

@@ -1,0 +1,10 @@
+pub mod Calls
+pub mod Depth
+pub mod Finished
+pub mod Lone
+pub mod LoneSteps
+pub mod Order
+pub mod Runs
+pub mod Steps
+pub mod Tests
+pub mod Unique

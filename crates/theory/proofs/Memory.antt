@@ -1,0 +1,17 @@
+pub mod ArrayFacts
+pub mod Binding
+pub mod Child
+pub mod Counts
+pub mod Entries
+pub mod FitChild
+pub mod FitFrame
+pub mod GoalFacts
+pub mod Heads
+pub mod LineFacts
+pub mod LineageFacts
+pub mod MeetFacts
+pub mod MoveFacts
+pub mod Steps
+pub mod Tracks
+pub mod Tried
+pub mod WorldFacts

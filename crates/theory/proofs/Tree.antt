@@ -1,0 +1,4 @@
+pub mod Nodes
+pub mod Pendings
+pub mod Reports
+pub mod Shapes

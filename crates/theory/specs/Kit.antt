@@ -1,4 +1,0 @@
-pub mod Maps
-pub mod Bounded
-pub mod ClausePaths
-pub mod Pigeon
