@@ -11,7 +11,7 @@ use Rattle.model.specs.declared.Walk.TheVariants.{On, Met}
 use Rattle.model.specs.declared.Kind.TheVariants.{Header}
 use Rattle.model.specs.Fields.{widths_of, predicate_count, variables, goal_count}
 use Rattle.model.specs.Image.{onward, arguments, goals, clause_word, clause_end, clause, predicates, header, ending, image_walk}
-use Rattle.words.specs.FieldLaws.{field_lt}
+use Rattle.words.proofs.FieldLaws.{field_lt}
 use Rattle.image.specs.Positions.{between-on, body-between, clause_word-between, clause_word-present}
 
 module _ (image words : List ℕ) (fewest head_arity at : ℕ) where

@@ -11,7 +11,7 @@ use Rattle.model.specs.declared.Refusal.TheVariants.{Image}
 use Rattle.model.specs.declared.Verdict.TheVariants.{Refused}
 use Rattle.model.specs.Fields.{widths_of, edition, predicate_count, header_zero, image_length}
 use Rattle.model.specs.Image.{onward, predicates, header, ending, image_walk, verdict, check_image}
-use Rattle.words.specs.FieldLaws.{field_lt}
+use Rattle.words.proofs.FieldLaws.{field_lt}
 
 image_length-lt : (word : ℕ) → image_length word < 131072
 unfolding widths_of

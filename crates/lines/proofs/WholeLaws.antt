@@ -11,7 +11,7 @@ use lib.Seq.{drop-cons}
 use borrow.Author.Tests.{eq-eqb, ne_eqb, le-leb, lt-leb}
 use Rattle.model.specs.declared.Kind.TheVariants.{Con, Var}
 use Rattle.model.specs.Fields.{widths_of, op, constant, variable_number}
-use Rattle.words.specs.FieldLaws.{field_lt}
+use Rattle.words.proofs.FieldLaws.{field_lt}
 use Rattle.desk_model.specs.declared.Ending.{Ending}
 use Rattle.desk_model.specs.declared.Ending.TheVariants.{Finished, Full, Spent}
 use Rattle.desk_model.specs.Lines.{decimal, newline, spaced, value_text, value_texts, answer_line, ending_name, ending_line, refused_name, refused_line, written, wrote, line_in, roomy, few_values}

@@ -9,7 +9,8 @@ use Rattle.model.specs.Image.{onward, variable_at, argument, arguments}
 use Rattle.model.specs.Rules.{Argument, con, var}
 use Rattle.model.specs.Encoding.{Word, Words, encode_arg, WellFormedArg, seen_with, seen_after}
 use Rattle.model.specs.Decoding.{decode_arg, decode_args}
-use Rattle.words.specs.FieldLaws.{field-join, field_lt, fields_from, join-field}
+use Rattle.words.specs.FieldLaws.{fields_from}
+use Rattle.words.proofs.FieldLaws.{field-join, field_lt, join-field}
 use Rattle.meaning.specs.Stands.{Stands}
 use Rattle.meaning.proofs.Walks.{cond-held, onward-passed}
 use Rattle.meaning.specs.Reading.{Read}

@@ -7,7 +7,8 @@ use Rattle.model.specs.declared.Walk.TheVariants.{On}
 use Rattle.model.specs.Fields.{widths_of, total, below, field, join, op, variables, goal_count, clause_length}
 use Rattle.model.specs.Image.{clause_word, clause_end}
 use Rattle.model.specs.Encoding.{Word}
-use Rattle.words.specs.FieldLaws.{field-join, fields_from, join-field}
+use Rattle.words.specs.FieldLaws.{fields_from}
+use Rattle.words.proofs.FieldLaws.{field-join, join-field}
 use Rattle.meaning.proofs.Walks.{cond-held, cond-failed}
 use Rattle.meaning.specs.ClauseWords.{ClauseFields}
 

@@ -8,7 +8,7 @@ use Rattle.model.specs.Fields.{widths_of, total}
 use Rattle.model.specs.Rules.{Argument, con, var, Goal, call, Clause, Rules}
 use Rattle.model.specs.Encoding.{Word, Words, Each, encode_arg, encode_goal, encode_body, encode_clause, encode_clauses, encode_mark, encode_predicates, encoded_length, encode, goal_args, clause_args, seen_with, seen_after, WellFormedArgs, WellFormedGoal, WellFormedClause, WellFormedPred, WellFormed, WellFormedQuery, encode_query}
 use Rattle.model.specs.Decoding.{decode}
-use Rattle.words.specs.FieldLaws.{join-lt}
+use Rattle.words.proofs.FieldLaws.{join-lt}
 use Rattle.meaning.proofs.Stands.{stands-behind}
 use Rattle.meaning.proofs.Reading.{seen_after-grows}
 use Rattle.meaning.proofs.Goals.{Declares}

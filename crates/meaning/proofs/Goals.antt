@@ -18,7 +18,8 @@ use Rattle.model.specs.Image.{onward, predicate_word, arguments, goal_word, goal
 use Rattle.model.specs.Rules.{Argument, Goal, call, Rules}
 use Rattle.model.specs.Encoding.{Word, Words, Each, encode_arg, encode_call, encode_goal, goal_args, arity_of, WellFormedGoal, seen_after}
 use Rattle.model.specs.Decoding.{decode_args, goal_next, decode_goal, decode_goals}
-use Rattle.words.specs.FieldLaws.{field-join, fields_from, join-field}
+use Rattle.words.specs.FieldLaws.{fields_from}
+use Rattle.words.proofs.FieldLaws.{field-join, join-field}
 use Rattle.meaning.specs.Stands.{Stands}
 use Rattle.meaning.proofs.Walks.{cond-held, onward-passed}
 use Rattle.meaning.specs.Reading.{Read}

@@ -11,7 +11,8 @@ use Rattle.model.specs.Image.{predicate_word, header}
 use Rattle.model.specs.Rules.{Rules}
 use Rattle.model.specs.Encoding.{Word, Each, arity_of, encode_clauses, encode_predicates, WellFormedPred}
 use Rattle.model.specs.Decoding.{decode, decode_predicate, decode_predicates}
-use Rattle.words.specs.FieldLaws.{field-join, field_lt, fields_from, join-field}
+use Rattle.words.specs.FieldLaws.{fields_from}
+use Rattle.words.proofs.FieldLaws.{field-join, field_lt, join-field}
 use Rattle.meaning.specs.Stands.{Stands}
 use Rattle.meaning.proofs.Walks.{cond-held, cond-failed}
 use Rattle.meaning.proofs.Goals.{Declares}

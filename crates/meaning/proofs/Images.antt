@@ -15,7 +15,7 @@ use Rattle.model.specs.Image.{onward, predicates, header, ending, image_walk, ve
 use Rattle.model.specs.Rules.{Rules}
 use Rattle.model.specs.Encoding.{Words, encode_clauses, encode_predicates, encoded_length, encode, WellFormed}
 use Rattle.model.specs.Decoding.{decode_predicates, decode}
-use Rattle.words.specs.FieldLaws.{field_lt}
+use Rattle.words.proofs.FieldLaws.{field_lt}
 use Rattle.meaning.specs.Stands.{Stands}
 use Rattle.meaning.proofs.Stands.{stands-append, stands-left, stands-right, stands-within, stands-whole, stands-behind}
 use Rattle.meaning.proofs.Walks.{cond-failed, onward-passed}

@@ -17,7 +17,8 @@ use Rattle.model.specs.Image.{onward, predicate_word, predicate, predicates}
 use Rattle.model.specs.Rules.{Predicate, Rules}
 use Rattle.model.specs.Encoding.{Word, Words, Each, encode_mark, encode_clauses, encode_predicate, encode_predicates, WellFormedPred}
 use Rattle.model.specs.Decoding.{decode_clauses, decode_predicate, decode_predicates}
-use Rattle.words.specs.FieldLaws.{field-join, field_lt, fields_from, join-field}
+use Rattle.words.specs.FieldLaws.{fields_from}
+use Rattle.words.proofs.FieldLaws.{field-join, field_lt, join-field}
 use Rattle.meaning.specs.Stands.{Stands}
 use Rattle.meaning.proofs.Stands.{stands-append, stands-left, stands-right}
 use Rattle.meaning.proofs.Walks.{cond-held, onward-passed}

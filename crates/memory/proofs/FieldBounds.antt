@@ -4,7 +4,7 @@ use Prim.Native.Nat.{ℕ, ◌<◌}
 use Rattle.model.specs.declared.Kind.TheVariants.{Predicate, Clause, Node0, Node1, Node2}
 use Rattle.model.specs.Fields.{widths_of, arity, clause_count, first_clause, variables, clause_length}
 use Rattle.model.specs.Memory.{node_word, parent, depth, entries, own_variables, base, clause_position, frame, goal_index, tried}
-use Rattle.words.specs.FieldLaws.{field_lt}
+use Rattle.words.proofs.FieldLaws.{field_lt}
 
 -- a predicate word and a CLAUSE word
 module _ (word : ℕ) where

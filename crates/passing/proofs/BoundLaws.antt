@@ -18,7 +18,7 @@ use Rattle.model.specs.declared.Found.TheVariants.{Unbound, Constant}
 use Rattle.model.specs.Fields.{total, below, field, widths_of, op, variable_number, constant}
 use Rattle.model.specs.Memory.{tag, value, cut_to, word_of, con_word, cell_of}
 use Rattle.model.specs.Terms.{var_no, cell_addr, says, found_said, dereference, argument_of}
-use Rattle.words.specs.FieldLaws.{field-join}
+use Rattle.words.proofs.FieldLaws.{field-join}
 use Rattle.terms.proofs.TermLaws.{dereference-found}
 
 pub tag-con_word : (c : ℕ) → tag (con_word c) ≡ 2

@@ -7,7 +7,7 @@ use Rattle.model.specs.declared.Kind.TheVariants.{Value}
 use Rattle.model.specs.Fields.{widths_of, field, below, total}
 use Rattle.model.specs.Memory.{depth, own_variables, base, cut_to, word_of, vno_word, tag, value, cell_of}
 use Rattle.model.specs.Damage.{on_path, ref_sound, value_sound, cell_sound}
-use Rattle.words.specs.FieldLaws.{field-join}
+use Rattle.words.proofs.FieldLaws.{field-join}
 use Rattle.memory.proofs.FieldBounds.{base-lt}
 use Rattle.paths.proofs.Held.{and-held, four-held, or-second, cond-first, cond-second}
 use Rattle.paths.specs.Ancestors.{Ancestor}

@@ -7,7 +7,8 @@ use Rattle.model.specs.declared.Kind.{Kind}
 use Rattle.model.specs.declared.Kind.TheVariants.{Header, Predicate, Clause, Var, Con, Goal, Node0, Node1, Node2, Node3, Value}
 use Rattle.model.specs.Fields.{widths_of, kept_fields, total, below, field, fields, join, header_zero, variable_zero, goal_zero}
 use Rattle.model.specs.Spread.{spread_fields, spread_word, join_fields, packed_word}
-use Rattle.words.specs.FieldLaws.{Fit, join-lt, fields_join, join-fields, fields_at, field_lt}
+use Rattle.words.specs.FieldLaws.{Fit}
+use Rattle.words.proofs.FieldLaws.{join-lt, fields_join, join-fields, fields_at, field_lt}
 use Rattle.words.proofs.TableLaws.{row-of}
 use Rattle.spread.specs.GroupLaws.{kept_widths, GroupFits}
 

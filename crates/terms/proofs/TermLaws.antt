@@ -12,7 +12,7 @@ use Rattle.model.specs.declared.CellAddr.{CellAddr}
 use Rattle.model.specs.declared.Pairing.TheVariants.{Nothing, Clash, Binds}
 use Rattle.model.specs.Memory.{tag, value, ref_word}
 use Rattle.model.specs.Terms.{says, found_said, dereference, pairing}
-use Rattle.words.specs.FieldLaws.{field_lt}
+use Rattle.words.proofs.FieldLaws.{field_lt}
 
 module _ (array cells : List ℕ) where
   pub dereference-end : (left at : ℕ) → left ≤ 0 → Constant 0 ≡ dereference left array cells at

@@ -18,7 +18,7 @@ use Rattle.model.specs.Goals.{clause_words}
 use Rattle.model.specs.Steps.{View, Stepped, stepped, left_for, freed, dead_rule, raised, grown, failed, succeeded, taken, with_store, head_store, take_clause, goal_of, predicate_of}
 use Rattle.passing.specs.Clash.{fails_plainly}
 use Rattle.passing.specs.Passing.{Passing, passing, pass_over, blank, skipped}
-use Rattle.words.specs.FieldLaws.{field_lt}
+use Rattle.words.proofs.FieldLaws.{field_lt}
 use Rattle.recall.specs.Places.{GoalTold, ClauseTold}
 use Rattle.recall.proofs.RecallLaws.{nothing-kept}
 use Rattle.turns.specs.Hand.{AtHand, Begun}

@@ -14,7 +14,7 @@ use Rattle.model.specs.Fields.{widths_of, field, below, total, goal_predicate}
 use Rattle.model.specs.Memory.{node_word, used, parent, base, own_variables, clause_position, has_goal, frame, goal_index, tried, word_of, cut_to}
 use Rattle.model.specs.Goals.{clause_words, goal_place}
 use Rattle.model.specs.Steps.{goal_of, predicate_of, child_from, has_child, free_from, lowest_free, raised}
-use Rattle.words.specs.FieldLaws.{field-join, field_lt}
+use Rattle.words.proofs.FieldLaws.{field-join, field_lt}
 
 -- a word that is not 0 stands inside its list
 get_or-inside : (words : List ℕ) (at : ℕ) → 0 < get_or words at 0 → at < length words

@@ -7,7 +7,7 @@ use Rattle.model.specs.declared.Kind.TheVariants.{Value}
 use Rattle.model.specs.Fields.{widths_of}
 use Rattle.model.specs.Memory.{tag, value, cut_to, word_of, vno_word, ref_word, cleared}
 use Rattle.model.specs.Steps.{laid}
-use Rattle.words.specs.FieldLaws.{field-join}
+use Rattle.words.proofs.FieldLaws.{field-join}
 
 pub tag-ref_word : (n : ℕ) → tag (ref_word n) ≡ 1
 unfolding widths_of word_of cut_to

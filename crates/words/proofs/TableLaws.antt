@@ -13,7 +13,7 @@ use Rattle.model.specs.declared.Kind.{Kind}
 use Rattle.model.specs.declared.Kind.TheVariants.{Header, Predicate, Clause, Var, Con, Goal, Node0, Node1, Node2, Node3, Value}
 use Rattle.model.specs.Fields.{widths_of, total, below, field}
 use Rattle.words.specs.Table.{row_of}
-use Rattle.words.specs.FieldLaws.{total-parts}
+use Rattle.words.proofs.FieldLaws.{total-parts}
 
 -- the code's array, as it stands there
 abbrev pub table : List (List ℕ)

@@ -2,7 +2,7 @@
 use mathlib.Core.Path.{◌≡◌, sym, ap, ◌∙◌}
 use native.Mathlib.Omega.{arith}
 use Rattle.model.specs.Fields.{widths_of, below}
-use Rattle.words.specs.FieldLaws.{below-back}
+use Rattle.words.proofs.FieldLaws.{below-back}
 use Rattle.words.proofs.TableLaws.{row-of, within}
 use Rattle.words.proofs.low.Goals as goal
 
