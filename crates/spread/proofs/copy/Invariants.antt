@@ -1,0 +1,14 @@
+-- `spread::copy` meets its contract. The loop's invariant: what is left to do gives the whole. Assumes nothing.
+use mathlib.Core.Path.{◌≡◌, refl, sym, ◌∙◌}
+use Prim.Native.Nat.{◌-◌, ◌≤◌}
+use native.Mathlib.Omega.{arith}
+use lib.Seq.{sets}
+use lib.ListN.{length, get_or, drop, length-set}
+use Rattle.spread.proofs.LoopLaws.{store-turn, store-end, stored}
+use Rattle.spread.proofs.copy.Given as goal
+
+abbrev pub invariant-loop-i : goal.invariant-loop-i
+invariant-loop-i l = (l.i ≤ length l.words) × (length l.words ≤ length l.room) × (length l.room ≡ length l.initial.room) × (sets l.room l.i (drop l.i l.words) ≡ sets l.initial.room 0 l.words)
+
+abbrev pub decreases-loop-i : goal.decreases-loop-i
+decreases-loop-i l = length l.words - l.i

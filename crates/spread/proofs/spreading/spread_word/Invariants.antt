@@ -1,0 +1,17 @@
+-- `spread::spreading::spread_word` meets its contract. The loop's invariant: what is left to do gives the whole. Assumes nothing.
+use mathlib.Core.Path.{◌≡◌, refl, sym, ap, ◌∙◌}
+use Prim.Native.Nat.{ℕ, ◌+◌, ◌-◌, ◌≤◌}
+use native.Mathlib.Omega.{arith}
+use lib.Seq.{sets}
+use lib.ListN.{length, drop, set, length-set}
+use borrow.Author.Rules.{rules}
+use Rattle.model.specs.Spread.{spread_fields, spread_word, group_size}
+use Rattle.model.specs.Fields.{widths_of, kept_fields}
+use Rattle.spread.proofs.LoopLaws.{spread-turn, spread_end}
+use Rattle.spread.proofs.spreading.spread_word.Given as goal
+
+abbrev pub invariant-loop-j : goal.invariant-loop-j
+invariant-loop-j l = (l.j ≤ l.size) × (l.place ≡ l.at + l.j) × (length l.room ≡ length l.initial.room) × (sets l.room l.place (spread_fields (widths_of l.kind) (drop l.j (kept_fields l.kind)) l.word) ≡ sets l.initial.room l.at (spread_word l.kind l.word))
+
+abbrev pub decreases-loop-j : goal.decreases-loop-j
+decreases-loop-j l = l.size - l.j
