@@ -1,9 +1,7 @@
 -- `spread::copy` meets its contract. The loop's invariant: what is left to do gives the whole. Assumes nothing.
-use mathlib.Core.Path.{◌≡◌, refl, sym, ◌∙◌}
-use Prim.Native.Nat.{◌-◌, ◌≤◌}
+use mathlib.Core.Path.{refl, sym, ◌∙◌}
 use native.Mathlib.Omega.{arith}
-use lib.Seq.{sets}
-use lib.ListN.{length, get_or, drop, length-set}
+use lib.ListN.{get_or, length-set}
 use Rattle.spread.proofs.LoopLaws.{store-turn, store-end, stored}
 use Rattle.spread.proofs.copy.Goals as goal
 

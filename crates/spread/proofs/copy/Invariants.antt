@@ -1,10 +1,8 @@
 -- `spread::copy` meets its contract. The loop's invariant: what is left to do gives the whole. Assumes nothing.
-use mathlib.Core.Path.{◌≡◌, refl, sym, ◌∙◌}
+use mathlib.Core.Path.{◌≡◌}
 use Prim.Native.Nat.{◌-◌, ◌≤◌}
-use native.Mathlib.Omega.{arith}
 use lib.Seq.{sets}
-use lib.ListN.{length, get_or, drop, length-set}
-use Rattle.spread.proofs.LoopLaws.{store-turn, store-end, stored}
+use lib.ListN.{length, drop}
 use Rattle.spread.proofs.copy.Given as goal
 
 abbrev pub invariant-loop-i : goal.invariant-loop-i

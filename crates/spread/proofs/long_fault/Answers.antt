@@ -1,6 +1,5 @@
 -- `spread::long_fault` meets its contract. Assumes nothing.
 use native.Mathlib.Omega.{arith}
-use borrow.Author.Rules.{rules}
 use borrow.Author.Tests.{eq-eqb, ne_eqb}
 use Rattle.model.specs.Fields.{edition, predicate_count, header_zero}
 use Rattle.image.specs.LongImages.{long_fault}

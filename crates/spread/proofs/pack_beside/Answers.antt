@@ -3,7 +3,6 @@ use mathlib.Core.List.{List}
 use mathlib.Core.Path.{sym, ap, ◌∙◌}
 use Prim.Native.Nat.{ℕ}
 use lib.ListN.{length}
-use borrow.Author.Rules.{rules}
 use Rattle.model.specs.declared.Verdict.TheVariants.{Refused as Illegal}
 use Rattle.model.specs.declared.Verdict.TheVariants.{Legal}
 use Rattle.model.specs.Image.{check_image}

@@ -1,7 +1,6 @@
 -- `spread::unpack` meets its contract. Assumes nothing.
 use mathlib.Core.Path.{sym, ◌∙◌}
 use native.Mathlib.Omega.{arith}
-use borrow.Author.Rules.{rules}
 use Rattle.spread.proofs.AnswerLaws.{unpack-refused, unpack-room, unpack-done}
 use Rattle.spread.proofs.unpack.Goals as goal
 

@@ -1,6 +1,5 @@
 -- `spread::write_out` meets its contract. Assumes nothing.
 use mathlib.Core.Path.{ap₂}
-use borrow.Author.Rules.{rules}
 use borrow.Author.Tests.{le-leb, lt-leb}
 use Rattle.model.specs.Spread.{written_to, write_out}
 use Rattle.spread.proofs.write_out.Goals as goal

@@ -1,13 +1,9 @@
 -- `spread::groups::judge` meets its contract. The loop's invariant: what is left to do gives the whole. Assumes nothing.
-use mathlib.Core.Path.{◌≡◌, refl, sym, ◌∙◌}
+use mathlib.Core.Path.{◌≡◌}
 use Prim.Native.Nat.{◌-◌, ◌≤◌}
-use native.Mathlib.Omega.{arith}
 use lib.ListN.{length, drop}
-use borrow.Author.Rules.{rules}
-use borrow.Author.Tests.{not-true, not-false}
-use Rattle.model.specs.Spread.{group_size, judged}
+use Rattle.model.specs.Spread.{judged}
 use Rattle.model.specs.Fields.{widths_of, kept_fields}
-use Rattle.spread.proofs.LoopLaws.{judge-end, judge-short, judge-turn}
 use Rattle.spread.proofs.groups.judge.Given as goal
 
 abbrev pub invariant-loop-j : goal.invariant-loop-j

@@ -1,7 +1,5 @@
 -- `spread::groups::judge_group` meets its contract. Assumes nothing.
 use mathlib.Core.Path.{sym, ◌∙◌}
-use borrow.Author.Rules.{rules}
-use borrow.Author.Tests.{not-true, not-false}
 use Rattle.spread.proofs.StepLaws.{group-unknown, group-known}
 use Rattle.spread.proofs.groups.judge_group.Goals as goal
 

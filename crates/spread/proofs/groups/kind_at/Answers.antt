@@ -1,5 +1,4 @@
 -- `spread::groups::kind_at` meets its contract. Assumes nothing.
-use borrow.Author.Rules.{rules}
 use borrow.Author.Tests.{le-leb, lt-leb, eq-eqb, ne_eqb}
 use Rattle.model.specs.Spread.{kind_at}
 use Rattle.spread.proofs.groups.kind_at.Goals as goal

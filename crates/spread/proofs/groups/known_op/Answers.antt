@@ -2,7 +2,6 @@
 use native.Mathlib.Omega.{arith}
 use borrow.Author.Tests.{ne_eqb}
 use Rattle.model.specs.Spread.{known_op}
-use Rattle.model.specs.Fields.{op}
 use Rattle.spread.proofs.groups.known_op.Goals as goal
 
 pub returns-in-1 : goal.returns-in-1

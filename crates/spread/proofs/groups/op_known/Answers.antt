@@ -1,5 +1,4 @@
 -- `spread::groups::op_known` meets its contract. Assumes nothing.
-use borrow.Author.Rules.{rules}
 use borrow.Author.Tests.{le-leb, lt-leb}
 use Rattle.model.specs.Spread.{op_known}
 use Rattle.spread.proofs.groups.op_known.Goals as goal

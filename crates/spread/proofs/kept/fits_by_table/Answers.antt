@@ -4,7 +4,6 @@ use Prim.Native.Nat.{ℕ, ◌^◌}
 use lib.Dec.{ltb}
 use lib.ListN.{get_or}
 use Rattle.model.specs.Fields.{widths_of}
-use borrow.Author.Rules.{rules}
 use Rattle.spread.proofs.kept.fits_by_table.Goals as goal
 
 pub returns : goal.returns

@@ -3,7 +3,6 @@ use mathlib.Core.Path.{ap, ◌∙◌}
 use Prim.Native.Nat.{ℕ, ◌*◌, ◌%◌, ◌^◌}
 use lib.ListN.{get_or}
 use Rattle.model.specs.Fields.{widths_of, below}
-use borrow.Author.Rules.{rules}
 use Rattle.spread.proofs.kept.placed_by_table.Goals as goal
 
 pub returns : goal.returns

@@ -2,7 +2,6 @@
 use mathlib.Core.Path.{ap, ◌∙◌}
 use Prim.Native.Nat.{ℕ}
 use Rattle.model.specs.Fields.{widths_of, field}
-use borrow.Author.Rules.{rules}
 use Rattle.spread.proofs.kept.read_by_table.Goals as goal
 
 pub returns : goal.returns

@@ -1,5 +1,4 @@
 -- `spread::kept::size_of` meets its contract. Assumes nothing.
-use borrow.Author.Rules.{rules}
 use Rattle.spread.proofs.kept.size_of.Goals as goal
 
 pub returns-in-Header : goal.returns-in-Header

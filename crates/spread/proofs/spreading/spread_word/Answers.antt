@@ -1,10 +1,9 @@
 -- `spread::spreading::spread_word` meets its contract. The loop's invariant: what is left to do gives the whole. Assumes nothing.
-use mathlib.Core.Path.{◌≡◌, refl, sym, ap, ◌∙◌}
-use Prim.Native.Nat.{ℕ, ◌+◌, ◌-◌, ◌≤◌}
+use mathlib.Core.Path.{refl, sym, ap, ◌∙◌}
+use Prim.Native.Nat.{ℕ, ◌+◌}
 use native.Mathlib.Omega.{arith}
 use lib.Seq.{sets}
-use lib.ListN.{length, drop, set, length-set}
-use borrow.Author.Rules.{rules}
+use lib.ListN.{drop, set, length-set}
 use Rattle.model.specs.Spread.{spread_fields, spread_word, group_size}
 use Rattle.model.specs.Fields.{widths_of, kept_fields}
 use Rattle.spread.proofs.LoopLaws.{spread-turn, spread_end}

@@ -1,13 +1,10 @@
 -- `spread::spreading::spread_word` meets its contract. The loop's invariant: what is left to do gives the whole. Assumes nothing.
-use mathlib.Core.Path.{◌≡◌, refl, sym, ap, ◌∙◌}
-use Prim.Native.Nat.{ℕ, ◌+◌, ◌-◌, ◌≤◌}
-use native.Mathlib.Omega.{arith}
+use mathlib.Core.Path.{◌≡◌}
+use Prim.Native.Nat.{◌+◌, ◌-◌, ◌≤◌}
 use lib.Seq.{sets}
-use lib.ListN.{length, drop, set, length-set}
-use borrow.Author.Rules.{rules}
-use Rattle.model.specs.Spread.{spread_fields, spread_word, group_size}
+use lib.ListN.{length, drop}
+use Rattle.model.specs.Spread.{spread_fields, spread_word}
 use Rattle.model.specs.Fields.{widths_of, kept_fields}
-use Rattle.spread.proofs.LoopLaws.{spread-turn, spread_end}
 use Rattle.spread.proofs.spreading.spread_word.Given as goal
 
 abbrev pub invariant-loop-j : goal.invariant-loop-j
