@@ -71,6 +71,7 @@ fn done(words: &[u32]) -> Written
 }
 
 // 26 where the room is too small, and then nothing is written.
+#[tactic(auto, unfolding(model::specs::Spread::write_out))]
 fn write_out(words: &[u32], room: &mut [u32]) -> Written
     ensures { written_to result room.new ≡ write_out words.now room.old }
 {
@@ -82,6 +83,7 @@ fn write_out(words: &[u32], room: &mut [u32]) -> Written
 }
 
 // The fault of an image of more than 131,071 words that begins with `word`.
+#[tactic(auto, unfolding(image::specs::LongImages::long_fault))]
 fn long_fault(word: u32) -> Fault
     ensures { result ≡ long_fault word }
 {

@@ -8,24 +8,6 @@ use Rattle.spread.proofs.copy.Goals as goal
 pub loop-i-init : goal.loop-i-init
 loop-i-init c = (omega arith, omega arith, refl, refl)
 
-pub offset_bounds-words-i : goal.offset_bounds-words-i
-offset_bounds-words-i c = omega arith
-
-pub bounds-words-i : goal.bounds-words-i
-bounds-words-i c = omega arith
-
-pub offset_bounds-room-i : goal.offset_bounds-room-i
-offset_bounds-room-i c = omega arith
-
-pub bounds-room-i : goal.bounds-room-i
-bounds-room-i c = omega arith
-
-pub overflow_add-i : goal.overflow_add-i
-overflow_add-i c = omega arith
-
-pub loop-i-smaller : goal.loop-i-smaller
-loop-i-smaller c = omega arith
-
 pub loop-i-preserved : goal.loop-i-preserved
 loop-i-preserved c = let l = c.loop-i in
     let n = length-set l.room l.i (get_or c.args.words.now l.i 0) in

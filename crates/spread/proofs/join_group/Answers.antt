@@ -58,9 +58,6 @@ overflow_add-place c =
     let l = c.loop-j in
     omega (arith, (value a.kind a.list.now a.at l.place l.j (omega arith) l.invariant.through).inside)
 
-pub overflow_add-j : goal.overflow_add-j
-overflow_add-j c = omega arith
-
 pub loop-j-preserved : goal.loop-j-preserved
 loop-j-preserved c =
     let a = c.args in

@@ -10,9 +10,6 @@ use Rattle.model.specs.Spread.{write_out}
 use Rattle.spread.proofs.AnswerLaws.{pack-checked}
 use Rattle.spread.proofs.pack_beside.Goals as goal
 
-pub pack_words-requires : goal.pack_words-requires
-pack_words-requires c = c.requires
-
 pub returns-in-Refused : goal.returns-in-Refused
 returns-in-Refused c = let a = c.args in
     pack-checked a.list.now a.room.now (length a.words.now) c.requires (Illegal c.in-Refused.refusal c.in-Refused.place)

@@ -15,27 +15,12 @@ returns-then-list-place c = let a = c.args in
     let l = c.loop-j in
     sym (judge-short (widths_of a.kind) (kept_fields a.kind) a.list.now l.place l.j (omega (arith, c.size_of-size.ensures)) c.if-list-place.true) ∙ l.invariant.2
 
-pub offset_bounds-list-place : goal.offset_bounds-list-place
-offset_bounds-list-place c = omega arith
-
-pub bounds-list-place : goal.bounds-list-place
-bounds-list-place c = omega arith
-
 pub returns-then-not-fits_kept : goal.returns-then-not-fits_kept
 unfolding group_size
 returns-then-not-fits_kept c = let a = c.args in
     let l = c.loop-j in
     let t = judge-turn (widths_of a.kind) (kept_fields a.kind) a.list.now l.place l.j (omega (arith, c.size_of-size.ensures)) c.if-list-place.false in
     sym (rw (sym c.fits_kept.ensures ∙ c.if-not-fits_kept.true) at t) ∙ l.invariant.2
-
-pub overflow_add-place : goal.overflow_add-place
-overflow_add-place c = omega arith
-
-pub overflow_add-j : goal.overflow_add-j
-overflow_add-j c = omega arith
-
-pub loop-j-smaller : goal.loop-j-smaller
-loop-j-smaller c = omega arith
 
 pub loop-j-preserved : goal.loop-j-preserved
 unfolding group_size

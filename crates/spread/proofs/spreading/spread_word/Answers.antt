@@ -13,21 +13,6 @@ pub loop-j-init : goal.loop-j-init
 unfolding spread_word
 loop-j-init c = (omega arith, omega arith, refl, refl)
 
-pub offset_bounds-room-place : goal.offset_bounds-room-place
-offset_bounds-room-place c = omega (arith, c.size_of-size.ensures, c.requires)
-
-pub bounds-room-place : goal.bounds-room-place
-bounds-room-place c = omega (arith, c.size_of-size.ensures, c.requires)
-
-pub overflow_add-place : goal.overflow_add-place
-overflow_add-place c = omega (arith, c.size_of-size.ensures, c.requires)
-
-pub overflow_add-j : goal.overflow_add-j
-overflow_add-j c = omega (arith, c.size_of-size.ensures, c.requires)
-
-pub loop-j-smaller : goal.loop-j-smaller
-loop-j-smaller c = omega arith
-
 pub loop-j-preserved : goal.loop-j-preserved
 unfolding group_size
 loop-j-preserved c = let a = c.args in
