@@ -13,4 +13,6 @@ pub join_group-word-requires : goal.join_group-word-requires
 join_group-word-requires c = (first_group c.args.list.now c.args.count (omega (arith, c.requires.long)) c.requires.through).through
 
 pub returns : goal.returns
-returns c = let a = c.args in ap (λ (fault : Fault). written_to (Refused (Image fault) 0) a.room.now) c.long_fault.ensures ∙ pack-long a.list.now a.room.now a.count c.join_group-word.result c.requires.through c.requires.long c.join_group-word.ensures
+returns c =
+    let a = c.args in
+    ap (λ (fault : Fault). written_to (Refused (Image fault) 0) a.room.now) c.long_fault.ensures ∙ pack-long a.list.now a.room.now a.count c.join_group-word.result c.requires.through c.requires.long c.join_group-word.ensures

@@ -8,7 +8,12 @@ use Rattle.model.specs.Fields.{widths_of, kept_fields}
 use Rattle.spread.proofs.spreading.spread_word.Given as goal
 
 abbrev pub invariant-loop-j : goal.invariant-loop-j
-invariant-loop-j l = (l.j ≤ l.size) × (l.place ≡ l.at + l.j) × (length l.room ≡ length l.initial.room) × (sets l.room l.place (spread_fields (widths_of l.kind) (drop l.j (kept_fields l.kind)) l.word) ≡ sets l.initial.room l.at (spread_word l.kind l.word))
+invariant-loop-j l = record {
+  in_size : l.j ≤ l.size;
+  stands : l.place ≡ l.at + l.j;
+  as_long : length l.room ≡ length l.initial.room;
+  stores : sets l.room l.place (spread_fields (widths_of l.kind) (drop l.j (kept_fields l.kind)) l.word) ≡ sets l.initial.room l.at (spread_word l.kind l.word);
+}
 
 abbrev pub decreases-loop-j : goal.decreases-loop-j
 decreases-loop-j l = l.size - l.j
