@@ -13,7 +13,7 @@ use Rattle.model.specs.declared.Refusal.TheVariants.{UnknownOp}
 use Rattle.model.specs.declared.Scan.{Scan}
 use Rattle.model.specs.declared.Scan.TheVariants.{Through, Stopped}
 use Rattle.model.specs.Fields.{widths_of, kept_fields}
-use Rattle.model.specs.Spread.{group_size, kind_at, packed_word, further, judged, op_known, judged_group, scan_from, scan, packed_from, packed}
+use Rattle.model.specs.Spread.{group_size, kind_at, packed_word, further, judged, op_known, judged_group, scan_from, packed_from}
 use Rattle.spread.specs.ScanLaws.{size-at, kind_of, group-through, scan_step, packed_step, opened, scan-counts}
 
 -- the first value of what is left

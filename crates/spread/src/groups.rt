@@ -6,6 +6,7 @@ ghost use Rattle.model.specs.Spread.{known_op, kind_of_op, kind_at, judged, op_k
 use crate::kept::{fits_kept, size_of};
 use model::{Kind, Refusal, Scan};
 
+#[tactic(auto, unfolding(model::specs::Spread::known_op))]
 fn known_op(op: u32) -> bool
     ensures { result ≡ known_op op }
 {
@@ -18,6 +19,7 @@ fn known_op(op: u32) -> bool
     }
 }
 
+#[tactic(auto, unfolding(model::specs::Spread::kind_of_op))]
 fn kind_of_op(op: u32) -> Kind
     ensures { result ≡ kind_of_op op }
 {
@@ -30,6 +32,7 @@ fn kind_of_op(op: u32) -> Kind
 }
 
 // The kind of the word at a number, counted from the header, where the header says `count` predicates.
+#[tactic(auto, unfolding(model::specs::Spread::kind_at))]
 pub fn kind_at(count: u32, number: usize, op: u32) -> Kind
     ensures { result ≡ kind_at count number op }
 {
@@ -42,6 +45,7 @@ pub fn kind_at(count: u32, number: usize, op: u32) -> Kind
     kind_of_op(op)
 }
 
+#[tactic(auto, unfolding(model::specs::Spread::op_known))]
 fn op_known(count: u32, number: usize, op: u32) -> bool
     ensures { result ≡ op_known count number op }
 {

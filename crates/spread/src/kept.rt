@@ -28,6 +28,7 @@ fn fits_by_table(value: u32, kind: Kind, j: usize) -> bool
 }
 
 // Whether a value is not too wide for the field.
+#[tactic(auto, unfolding(model::specs::Fields::kept_fields))]
 pub fn fits_kept(value: u32, kind: Kind, j: usize) -> bool
     ensures { result ≡ ltb value (2 ^ get_or (widths_of kind) (get_or (kept_fields kind) j 0) 0) }
 {
@@ -78,6 +79,7 @@ fn placed_by_table(value: u32, kind: Kind, j: usize) -> u32
 }
 
 // A value cut to the field's width, at the field's place.
+#[tactic(auto, unfolding(model::specs::Fields::kept_fields))]
 pub fn placed_kept(value: u32, kind: Kind, j: usize) -> u32
     ensures { result ≡ value % 2 ^ get_or (widths_of kind) (get_or (kept_fields kind) j 0) 0 * 2 ^ below (widths_of kind) (get_or (kept_fields kind) j 0) }
 {
@@ -128,6 +130,7 @@ fn read_by_table(word: u32, kind: Kind, j: usize) -> u32
 }
 
 // The field of a word.
+#[tactic(auto, unfolding(model::specs::Fields::kept_fields))]
 pub fn read_kept(word: u32, kind: Kind, j: usize) -> u32
     ensures { result ≡ field (widths_of kind) word (get_or (kept_fields kind) j 0) }
 {

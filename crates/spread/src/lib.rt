@@ -71,6 +71,7 @@ fn done(words: &[u32]) -> Written
 }
 
 // 26 where the room is too small, and then nothing is written.
+#[tactic(auto, unfolding(model::specs::Spread::write_out))]
 fn write_out(words: &[u32], room: &mut [u32]) -> Written
     ensures { written_to result room.new ≡ write_out words.now room.old }
 {
@@ -82,6 +83,7 @@ fn write_out(words: &[u32], room: &mut [u32]) -> Written
 }
 
 // The fault of an image of more than 131,071 words that begins with `word`.
+#[tactic(auto, unfolding(image::specs::LongImages::long_fault))]
 fn long_fault(word: u32) -> Fault
     ensures { result ≡ long_fault word }
 {
@@ -99,8 +101,8 @@ fn long_fault(word: u32) -> Fault
 
 // The length field has 17 bits, so a list of more than 131,071 words is refused by its header alone.
 fn pack_long(list: &[u32], count: usize, room: &mut [u32]) -> Written
-    requires list_value { scan list.now ≡ Scan.Through count }
-    requires lt_count { 131071 < count }
+    requires through { scan list.now ≡ Scan.Through count }
+    requires long { 131071 < count }
     ensures { written_to result room.new ≡ pack list.now room.old }
 {
     let word = join_group(list, Kind::Header, 0);
@@ -121,8 +123,8 @@ fn pack_beside(list: &[u32], words: &mut [u32], room: &mut [u32]) -> Written
 
 // 131,072 words are 512 KiB of stack.
 fn pack_large(list: &[u32], count: usize, room: &mut [u32]) -> Written
-    requires list_value { scan list.now ≡ Scan.Through count }
-    requires count_bound { count < 131072 }
+    requires through { scan list.now ≡ Scan.Through count }
+    requires fits { count < 131072 }
     ensures { written_to result room.new ≡ pack list.now room.old }
 {
     let mut words = [0u32; 131072];
@@ -131,8 +133,8 @@ fn pack_large(list: &[u32], count: usize, room: &mut [u32]) -> Written
 
 // For a small image the words of the largest are not filled.
 fn pack_small(list: &[u32], count: usize, room: &mut [u32]) -> Written
-    requires list_value { scan list.now ≡ Scan.Through count }
-    requires count_bound { count ≤ 1024 }
+    requires through { scan list.now ≡ Scan.Through count }
+    requires small { count ≤ 1024 }
     ensures { written_to result room.new ≡ pack list.now room.old }
 {
     let mut words = [0u32; 1024];
@@ -140,8 +142,8 @@ fn pack_small(list: &[u32], count: usize, room: &mut [u32]) -> Written
 }
 
 fn pack_short(list: &[u32], count: usize, room: &mut [u32]) -> Written
-    requires list_value { scan list.now ≡ Scan.Through count }
-    requires count_bound { count < 131072 }
+    requires through { scan list.now ≡ Scan.Through count }
+    requires fits { count < 131072 }
     ensures { written_to result room.new ≡ pack list.now room.old }
 {
     if count <= 1024 {
