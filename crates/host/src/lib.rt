@@ -1,4 +1,4 @@
-// What the signing host in C sees: exported functions over its slices. `include/cumbwael.h` declares them.
+// What the signing host in C calls: functions over its slices. `host_c` exports each under its name; `include/cumbwael.h` declares them.
 #![tactic(auto)]
 
 mod answers;
@@ -11,6 +11,8 @@ ghost use Rattle.model.specs.Bytes.{word_of_bytes, words_from, check_bytes};
 ghost use Rattle.model.specs.Spread.{pack, unpack};
 ghost use Rattle.host.specs.Near.{Near};
 ghost use Rattle.host.specs.Answers.{answer_of_check, filled, of_writing};
+
+pub use search::{cumbwael_load, cumbwael_move, cumbwael_read, cumbwael_run, cumbwael_step};
 
 use answers::{of_check, of_written};
 use model::{Fault, Refusal, Verdict};
@@ -84,8 +86,7 @@ fn check_large(bytes: &[u8], count: usize) -> u64
 }
 
 // The check of an image handed as bytes, most significant first.
-#[unsafe(no_mangle)]
-pub extern "C" fn cumbwael_check(bytes: &[u8]) -> u64
+pub fn cumbwael_check(bytes: &[u8]) -> u64
     ensures { result ≡ check_bytes bytes.now }
 {
     let mut count = bytes.len() / 4;
@@ -102,24 +103,21 @@ pub extern "C" fn cumbwael_check(bytes: &[u8]) -> u64
 }
 
 // The check of a query against its image, both as words. The image is judged first.
-#[unsafe(no_mangle)]
-pub extern "C" fn cumbwael_check_query(image: &[u32], query: &[u32]) -> Answer
+pub fn cumbwael_check_query(image: &[u32], query: &[u32]) -> Answer
     ensures { result ≡ answer_of_check (check_query image.now query.now) }
 {
     of_check(image::check_query(image, query))
 }
 
 // From a spread list to the image that it is the spread form of.
-#[unsafe(no_mangle)]
-pub extern "C" fn cumbwael_pack(list: &[u32], room: &mut [u32]) -> Answer
+pub fn cumbwael_pack(list: &[u32], room: &mut [u32]) -> Answer
     ensures { filled result room.new ≡ of_writing (pack list.now room.old) }
 {
     of_written(spread::pack(list, room))
 }
 
 // From a legal image to its spread form.
-#[unsafe(no_mangle)]
-pub extern "C" fn cumbwael_unpack(image: &[u32], room: &mut [u32]) -> Answer
+pub fn cumbwael_unpack(image: &[u32], room: &mut [u32]) -> Answer
     ensures { filled result room.new ≡ of_writing (unpack image.now room.old) }
 {
     of_written(spread::unpack(image, room))

@@ -8,8 +8,7 @@ use crate::Answer;
 use crate::answers::{of_check, of_move, of_run, of_step, of_written};
 
 // Sets memory afresh for a legal image and query.
-#[unsafe(no_mangle)]
-pub extern "C" fn cumbwael_load(
+pub fn cumbwael_load(
     image: &[u32],
     query: &[u32],
     nodes: &mut [u32],
@@ -24,8 +23,7 @@ pub extern "C" fn cumbwael_load(
 }
 
 // A step by a worker.
-#[unsafe(no_mangle)]
-pub extern "C" fn cumbwael_step<'a>(
+pub fn cumbwael_step<'a>(
     image: &'a [u32],
     query: &'a [u32],
     nodes: &mut [u32],
@@ -41,8 +39,7 @@ pub extern "C" fn cumbwael_step<'a>(
 }
 
 // A run of steps by a worker.
-#[unsafe(no_mangle)]
-pub extern "C" fn cumbwael_run<'a>(
+pub fn cumbwael_run<'a>(
     image: &'a [u32],
     query: &'a [u32],
     nodes: &mut [u32],
@@ -61,8 +58,7 @@ pub extern "C" fn cumbwael_run<'a>(
 }
 
 // Takes a worker to a used slot.
-#[unsafe(no_mangle)]
-pub extern "C" fn cumbwael_move<'a>(
+pub fn cumbwael_move<'a>(
     image: &'a [u32],
     query: &'a [u32],
     nodes: &[u32],
@@ -81,8 +77,7 @@ pub extern "C" fn cumbwael_move<'a>(
 }
 
 // Writes the answer at a node without goals into a room.
-#[unsafe(no_mangle)]
-pub extern "C" fn cumbwael_read<'a>(
+pub fn cumbwael_read<'a>(
     image: &'a [u32],
     query: &'a [u32],
     nodes: &[u32],

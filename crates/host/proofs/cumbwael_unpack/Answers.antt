@@ -1,0 +1,7 @@
+-- `host::cumbwael_unpack` meets its contract. Assumes nothing.
+use borrow.Author.Rules.{rules}
+use Rattle.host.proofs.AnswerLaws.{writing-said}
+use Rattle.host.proofs.cumbwael_unpack.Goals as goal
+
+pub returns : goal.returns
+returns c = writing-said _ _ _ _ c.of_written.ensures c.unpack.ensures

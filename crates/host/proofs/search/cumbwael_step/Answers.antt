@@ -1,0 +1,7 @@
+-- `host::search::cumbwael_step` meets its contract. Assumes nothing.
+use borrow.Author.Rules.{rules}
+use Rattle.host.proofs.AnswerLaws.{step-said}
+use Rattle.host.proofs.search.cumbwael_step.Goals as goal
+
+pub returns : goal.returns
+returns c = step-said _ _ _ _ c.of_step.ensures c.step.ensures
