@@ -1,0 +1,15 @@
+-- `listing::begin_parts` meets its contract. Assumes nothing.
+use Rattle.model.specs.Memory.{memory}
+use Rattle.listing.specs.Fits.{Fits}
+use Rattle.listing.proofs.OpenLaws.{begun-refused, begun-ready}
+use borrow.Author.Rules.{rules}
+use Rattle.listing.proofs.begin_parts.Goals as goal
+
+pub returns-in-Refused : goal.returns-in-Refused
+unfolding Fits
+returns-in-Refused c = let a = c.args in
+    (begun-refused a.size a.count a.words.now (memory a.nodes.now a.cells.now a.trail.now a.arrays.now a.workers.now) a.line.now _ _ c.load.ensures c.in-Refused.refusal c.in-Refused.at _ _ _ c.in-Refused.is c.refusal_number.ensures c.requires.3 c.refused_line.ensures.0, c.refused_line.ensures.1)
+
+pub returns-in-Legal : goal.returns-in-Legal
+unfolding Fits
+returns-in-Legal c = let a = c.args in (begun-ready a.size a.count a.words.now (memory a.nodes.now a.cells.now a.trail.now a.arrays.now a.workers.now) a.line.now _ _ c.load.ensures c.in-Legal.is, (c.requires.0, c.requires.1))
