@@ -1,12 +1,5 @@
-pub mod OwnCells
-pub mod Reached
-pub mod Entries
 pub mod Failure
-pub mod Example
-pub mod Frames
 pub mod Failing
 pub mod Tried
-pub mod GoalPlaces
 pub mod FirstGoals
 pub mod HeldClauses
-pub mod Legal

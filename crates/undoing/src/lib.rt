@@ -1,3 +1,2 @@
-// No code: a head that fails leaves nothing behind, as theorems in `specs/`.
+// No code: a head that fails leaves nothing behind, as theorems in `proofs/`.
 #![tactic(auto)]
-

@@ -18,8 +18,8 @@ use Rattle.model.specs.Terms.{Store, store, bind, pairing, argument_of, unify_pa
 use Rattle.model.specs.Steps.{undone}
 use Rattle.terms.proofs.HeadLaws.{counted}
 use Rattle.passing.proofs.UndoLaws.{cleared-entry, undone-entry, Blank, blank-less, entered, blank-entered}
-use Rattle.undoing.specs.OwnCells.{cleared-own}
-use Rattle.undoing.specs.Reached.{Kept, kept-array, kept-cells, PairedWell, argument_of-well, pairing-well}
+use Rattle.undoing.proofs.OwnCells.{cleared-own}
+use Rattle.undoing.proofs.Reached.{Kept, kept-array, kept-cells, PairedWell, argument_of-well, pairing-well}
 
 -- the child's own cells: as many as its clause has variables
 abbrev pub OwnCell : ℕ → ℕ → ℕ → Type 0

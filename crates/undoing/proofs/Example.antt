@@ -7,7 +7,8 @@ use Rattle.model.specs.Fields.{widths_of, total, below, field, join, op, variabl
 use Rattle.model.specs.Memory.{cut_to, word_of, cell_of, cleared}
 use Rattle.model.specs.Terms.{Store, found_said, dereference, argument_of, bind, pairing, unify_pair, unify_words, unify_head}
 use Rattle.model.specs.Steps.{undone, laid}
-use Rattle.undoing.specs.Failure.{PathCell, Ready, failure-undone}
+use Rattle.undoing.specs.Failure.{PathCell, Ready}
+use Rattle.undoing.proofs.Failure.{failure-undone}
 
 -- the head's words and the goal's: a variable's number 0 is the word 0x10000000, a constant c the word 0x20000000 + c
 abbrev head_words : List ℕ

@@ -13,12 +13,13 @@ use Rattle.model.specs.Damage.{sound}
 use Rattle.meaning.proofs.Meaning.{legal-query-image, legal-clauses}
 use Rattle.paths.proofs.Slots.{worker-stands, links-held}
 use Rattle.paths.proofs.Ancestors.{ancestor}
-use Rattle.undoing.specs.Frames.{frame-on-path}
-use Rattle.undoing.specs.Failing.{tried-failing}
-use Rattle.undoing.specs.Tried.{Judged, tried-only-counts}
-use Rattle.undoing.specs.GoalPlaces.{goal-below, head-below}
-use Rattle.undoing.specs.FirstGoals.{own-variables}
-use Rattle.undoing.specs.HeldClauses.{first-goal}
+use Rattle.undoing.proofs.Frames.{frame-on-path}
+use Rattle.undoing.proofs.Failing.{tried-failing}
+use Rattle.undoing.specs.Tried.{Judged}
+use Rattle.undoing.proofs.Tried.{tried-only-counts}
+use Rattle.undoing.proofs.GoalPlaces.{goal-below, head-below}
+use Rattle.undoing.proofs.FirstGoals.{own-variables}
+use Rattle.undoing.proofs.HeldClauses.{first-goal}
 
 -- a live node has a first goal with clauses untried
 live-has : (has more : Bool) → cond has more false ≡ true → (has ≡ true) × (more ≡ true)

@@ -19,7 +19,7 @@ use Rattle.model.specs.Memory.{tag, value, ref_word, con_word, cell_of}
 use Rattle.model.specs.Terms.{var_no, cell_addr, found_said, dereference, argument_of, pairing}
 use Rattle.passing.proofs.BoundLaws.{tag-con_word}
 use Rattle.paths.proofs.Values.{zero-tag}
-use Rattle.undoing.specs.OwnCells.{tag-ref_word, value-ref_word, get_or-set-either}
+use Rattle.undoing.proofs.OwnCells.{tag-ref_word, value-ref_word, get_or-set-either}
 
 -- the cells that can be come to, and among them the child's own
 module _ (Known Own : ℕ → Type 0) (child_base : ℕ) where
