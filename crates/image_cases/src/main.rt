@@ -4,10 +4,13 @@
 // Kind 0 is an image, 1 an image and a query, 2 to 5 the image's bytes less 0 to 3 of them, 6 a long image made here from one word.
 #![tactic(auto)]
 
-ghost use Rattle.std.specs.Prelude.{◌+◌, ◌*◌, ◌≤◌, ◌<◌, length};
+ghost use Rattle.std.specs.Prelude.{◌≡◌, ◌+◌, ◌*◌, ◌≤◌, ◌<◌, length, IfOk};
 
-use libc::STDOUT_FILENO;
 use model::Verdict;
+use std::fs::OpenFile;
+use std::io::Read;
+use std::rt::Files;
+use std::{fs, io};
 
 #[derive(Clone, Copy)]
 enum Found {
@@ -98,9 +101,16 @@ fn check_bytes(bytes: &[u8], start: usize, end: usize) -> u64 {
     host::cumbwael_check(&bytes[start..end])
 }
 
+// Room for the bytes of the longest image that is made here, and some more.
+fn long_room() -> [u8; 528384]
+    ensures { 528384 ≡ length result }
+{
+    [0; 528384]
+}
+
 // The check of an image of 131,000 and so many words, all of whose clauses are CLAUSE words alone.
 fn check_long(beyond: u32) -> u64 {
-    let mut bytes = [0u8; 528384];
+    let mut bytes = long_room();
     let words = 131000 + beyond % 1000;
     put(&mut bytes, 0, 268435456 + 33554432 + words % 131072);
     put_predicates(&mut bytes, words - 129);
@@ -154,12 +164,7 @@ fn case_at(bytes: &[u8], words: &[u32], at: usize) -> Found {
     Found::Differs(end)
 }
 
-fn say(what: &[u8], n: u64) {
-    io::print_decimal(STDOUT_FILENO, n);
-    io::write_all(STDOUT_FILENO, what);
-}
-
-fn run_cases(bytes: &[u8], words: &[u32]) {
+fn run_cases(rt: &impl Print, bytes: &[u8], words: &[u32]) -> io::Result<()> {
     let mut at: usize = 0;
     let mut agree: u64 = 0;
     let mut turns: u64 = 100000;
@@ -170,28 +175,51 @@ fn run_cases(bytes: &[u8], words: &[u32]) {
                 agree = (agree + 1) % 100000;
             }
             Found::Differs(next) => {
-                say(b" is the word of a case that differs\n", at as u64);
+                println!(rt; "{at} is the word of a case that differs")?;
                 at = next;
             }
             Found::Ends => {
-                say(b" cases agree\n", agree);
-                return;
+                println!(rt; "{agree} cases agree")?;
+                return Ok(());
             }
         }
         turns -= 1;
     }
+    Ok(())
 }
 
-fn main() {
-    let fd = os::open_read(b"cases");
-    if fd < 0 {
-        os::fail(b"cases");
-        return;
+// As much of the stored cases as there is room for; the count of bytes.
+fn read_cases<R: Read>(file: &mut R, bytes: &mut [u8]) -> io::Result<usize>
+    ensures { IfOk result (λ n. n ≤ length bytes.new) }
+{
+    let mut done: usize = 0;
+    while done < bytes.len() {
+        let count = file.read(&mut bytes[done..])?;
+        if count == 0 {
+            return Ok(done);
+        }
+        done += count;
     }
-    let mut bytes = [0u8; 262144];
-    let n = io::read_full(fd, &mut bytes);
-    libc::close(fd);
-    let mut words = [0u32; 65536];
+    Ok(done)
+}
+
+fn file_room() -> [u8; 262144]
+    ensures { 262144 ≡ length result }
+{
+    [0; 262144]
+}
+
+fn word_room() -> [u32; 65536]
+    ensures { 65536 ≡ length result }
+{
+    [0; 65536]
+}
+
+fn main(rt: HostRuntime) -> io::Result<()> {
+    let mut file = fs::open(&rt, "cases")?;
+    let mut bytes = file_room();
+    let n = read_cases(&mut file, &mut bytes)?;
+    let mut words = word_room();
     let count = read_words(&bytes[..n], &mut words);
-    run_cases(&bytes[..n], &words[..count]);
+    run_cases(&rt, &bytes[..n], &words[..count])
 }

@@ -1,0 +1,14 @@
+-- `image_cases::put` meets its contract. Assumes nothing.
+use native.Mathlib.Omega.{arith}
+use lib.ListN.{length-set}
+use borrow.Author.Rules.{rules}
+use Rattle.image_cases.proofs.put.Goals as goal
+
+pub bounds-bytes-at-2 : goal.bounds-bytes-at-2
+bounds-bytes-at-2 c = simp length-set (omega arith)
+
+pub bounds-bytes-at-3 : goal.bounds-bytes-at-3
+bounds-bytes-at-3 c = simp length-set (omega arith)
+
+pub bounds-bytes-at-4 : goal.bounds-bytes-at-4
+bounds-bytes-at-4 c = simp length-set (omega arith)
