@@ -4,13 +4,15 @@
 
 mod help;
 
-ghost use Rattle.std.specs.Prelude.{◌≡◌, ◌+◌, ◌≤◌, length};
-ghost use Rattle.io.specs.Counts.{IsPrefixLen};
+ghost use Rattle.std.specs.Prelude.{◌≡◌, ◌+◌, ◌≤◌, length, IfOk};
 ghost use Rattle.desk_model.specs.Desk.{line_size};
 ghost use Rattle.desk.specs.Rooms.{RoomAfter};
 
 use desk_model::{Line, Opened};
-use libc::STDOUT_FILENO;
+use std::env::{Env, FillError};
+use std::io::Read;
+use std::rt::Files;
+use std::{fs, io, str};
 
 // Whether the line printed was the last; if not, where the next stands in the block, and the steps so far.
 #[derive(Clone, Copy)]
@@ -26,43 +28,56 @@ fn file_room() -> [u8; 8192]
     [0; 8192]
 }
 
-fn say(text: &[u8]) {
-    io::write_all(STDOUT_FILENO, text);
-}
-
-// A file that cannot be read counts as an empty one.
-fn read_file(fd: i32, bytes: &mut [u8]) -> usize
-    ensures { IsPrefixLen result bytes.new }
+// What the first argument may fill: a longer one names no file.
+fn path_room() -> [u8; 4096]
+    ensures { 4096 ≡ length result }
 {
-    if fd < 0 {
-        return 0;
-    }
-    let n = io::read_full(fd, bytes);
-    libc::close(fd);
-    n
+    [0; 4096]
 }
 
-// Without an argument it is standard input.
-fn source(path: &[u8], error: i32) -> i32 {
-    if error == libc::EINVAL {
-        return libc::STDIN_FILENO;
+// A file that cannot be read counts as an empty one, or as what was read before.
+fn read_file<R: Read>(file: &mut R, bytes: &mut [u8]) -> usize
+    ensures { result ≤ length bytes.new }
+{
+    let mut done: usize = 0;
+    while done < bytes.len() {
+        match file.read(&mut bytes[done..]) {
+            Ok(count) => {
+                if count == 0 {
+                    return done;
+                }
+                done += count;
+            }
+            Err(_) => {
+                return done;
+            }
+        }
     }
-    if error != 0 {
-        return -1;
+    done
+}
+
+fn read_named(rt: &impl Files, name: &[u8], bytes: &mut [u8]) -> usize
+    ensures { result ≤ length bytes.new }
+{
+    match str::from_utf8(name) {
+        Ok(path) => match fs::open(rt, path) {
+            Ok(mut file) => read_file(&mut file, bytes),
+            Err(_) => 0,
+        },
+        Err(_) => 0,
     }
-    os::open_read(path)
 }
 
 // Writes the lines out where the block has no room for one more, and answers where the next line stands.
-fn write_block(block: &[u8], at: usize) -> usize
+fn write_block(rt: &impl Print, block: &[u8], at: usize) -> io::Result<usize>
     requires { (at ≤ length block.now) × (1024 ≤ length block.now) }
-    ensures { result + 1024 ≤ length block.now }
+    ensures { IfOk result (λ next. next + 1024 ≤ length block.now) }
 {
     if at <= block.len() - 1024 {
-        return at;
+        return Ok(at);
     }
-    io::write_all(STDOUT_FILENO, &block[..at]);
-    0
+    rt.write_all(&block[..at])?;
+    Ok(0)
 }
 
 // The next line, into the block from `at` on.
@@ -96,7 +111,9 @@ fn next_line<'a>(
 }
 
 // Prints the next line by way of the block. Answers where the one after it stands, and the steps so far, unless it was the last.
+#[tactic(auto, unfolding(crate::specs::Rooms::RoomAfter))]
 fn print_line<'a>(
+    rt: &impl Print,
     image: &'a [u32],
     query: &'a [u32],
     nodes: &mut [u32],
@@ -107,25 +124,30 @@ fn print_line<'a>(
     steps: u32,
     block: &mut [u8],
     at: usize,
-) -> Printed
+) -> io::Result<Printed>
     requires { at + 1024 ≤ length block.old }
-    ensures { RoomAfter result block.new }
+    ensures { IfOk result (λ printed. RoomAfter printed block.new) }
 {
     match next_line(
         image, query, nodes, cells, trail, arrays, workers, steps, block, at,
     ) {
-        Line::NoRoom => Printed::Last,
+        Line::NoRoom => Ok(Printed::Last),
         Line::Last(size) => {
             let all = at + size;
-            say(&block[..all]);
-            Printed::Last
+            rt.write_all(&block[..all])?;
+            Ok(Printed::Last)
         }
-        Line::More(size, so_far) => Printed::More(write_block(block, at + size), so_far),
+        Line::More(size, so_far) => {
+            let next = write_block(rt, block, at + size)?;
+            Ok(Printed::More(next, so_far))
+        }
     }
 }
 
 // There is at most an answer for each of 65,535 steps, and the last line.
+#[tactic(auto, unfolding(crate::specs::Rooms::RoomAfter))]
 fn print_lines<'a>(
+    rt: &impl Print,
     image: &'a [u32],
     query: &'a [u32],
     nodes: &mut [u32],
@@ -134,7 +156,7 @@ fn print_lines<'a>(
     arrays: &mut [u32],
     workers: &mut [u32],
     block: &mut [u8],
-)
+) -> io::Result<()>
     requires { 1024 ≤ length block.old }
 {
     let mut at: usize = 0;
@@ -142,10 +164,10 @@ fn print_lines<'a>(
     let mut turns: u32 = 65536;
     while 0 < turns {
         match print_line(
-            image, query, nodes, cells, trail, arrays, workers, steps, block, at,
-        ) {
+            rt, image, query, nodes, cells, trail, arrays, workers, steps, block, at,
+        )? {
             Printed::Last => {
-                return;
+                return Ok(());
             }
             Printed::More(next, so_far) => {
                 at = next;
@@ -154,9 +176,11 @@ fn print_lines<'a>(
         }
         turns -= 1;
     }
+    Ok(())
 }
 
 fn print_search(
+    rt: &impl Print,
     words: &[u32],
     size: usize,
     count: usize,
@@ -166,11 +190,12 @@ fn print_search(
     arrays: &mut [u32],
     workers: &mut [u32],
     block: &mut [u8],
-)
+) -> io::Result<()>
     requires { (1 + size ≤ count) × (count ≤ length words.now) × (1024 ≤ length block.old) }
 {
     let start = 1 + size;
     print_lines(
+        rt,
         &words[start..count],
         &words[1..start],
         nodes,
@@ -179,11 +204,13 @@ fn print_search(
         arrays,
         workers,
         block,
-    );
+    )
 }
 
 // The listing of a file.
+#[tactic(auto, unfolding(listing::specs::Fits::Fits))]
 fn print_listing(
+    rt: &impl Print,
     bytes: &[u8],
     words: &mut [u32],
     nodes: &mut [u32],
@@ -192,32 +219,35 @@ fn print_listing(
     arrays: &mut [u32],
     workers: &mut [u32],
     block: &mut [u8],
-)
+) -> io::Result<()>
     requires { (1297 ≤ length words.old) × (1024 ≤ length block.old) }
 {
     match listing::open(bytes, words, nodes, cells, trail, arrays, workers, block) {
-        Opened::NoRoom => {}
-        Opened::Refused(size) => {
-            say(&block[..size]);
-        }
-        Opened::Ready(size, count) => {
-            print_search(
-                words, size, count, nodes, cells, trail, arrays, workers, block,
-            );
-        }
+        Opened::NoRoom => Ok(()),
+        Opened::Refused(size) => rt.write_all(&block[..size]),
+        Opened::Ready(size, count) => print_search(
+            rt, words, size, count, nodes, cells, trail, arrays, workers, block,
+        ),
     }
 }
 
+fn block_room() -> [u8; 65536]
+    ensures { 65536 ≡ length result }
+{
+    [0; 65536]
+}
+
 // The memory that a search works in.
-fn search(bytes: &[u8]) {
+fn search(rt: &impl Print, bytes: &[u8]) -> io::Result<()> {
     let mut words = [0u32; 1297];
     let mut nodes = [0u32; 256];
     let mut cells = [0u32; 2048];
     let mut trail = [0u32; 2048];
     let mut arrays = [0u32; 8192];
     let mut workers = [0u32; 4];
-    let mut block = io::large_buffer();
+    let mut block = block_room();
     print_listing(
+        rt,
         bytes,
         &mut words,
         &mut nodes,
@@ -226,18 +256,22 @@ fn search(bytes: &[u8]) {
         &mut arrays,
         &mut workers,
         &mut block,
-    );
+    )
 }
 
-fn main() {
-    let mut path = io::buffer();
-    let length = os::arg(1, &mut path);
-    let error = os::errno();
-    if help::is_asked(&path[..length]) {
-        help::print();
-        return;
-    }
+// Without an argument it reads standard input.
+fn main(rt: HostRuntime) -> io::Result<()> {
+    let mut path = path_room();
     let mut bytes = file_room();
-    let n = read_file(source(&path[..length], error), &mut bytes);
-    search(&bytes[..n]);
+    let n = match rt.arg(1, &mut path) {
+        Ok(length) => {
+            if help::is_asked(&path[..length]) {
+                return help::print(&rt);
+            }
+            read_named(&rt, &path[..length], &mut bytes)
+        }
+        Err(FillError::NotPresent) => read_file(&mut rt.reader(), &mut bytes),
+        Err(FillError::TooLong) => 0,
+    };
+    search(&rt, &bytes[..n])
 }
