@@ -1,7 +1,7 @@
 // A stored call is made on the memory, and its answer and all words afterwards are held against what is stored.
 use crate::answers::{load_agrees, memory_digest, move_agrees, run_agrees, step_agrees};
 use crate::room::read_call_agrees;
-use crate::stored::{Call, next_word, part, read_call};
+use crate::stored::{Call, Stored, next_word, part, read_call};
 use crate::tally::count_answer;
 
 // A load, a step or a run.
@@ -55,7 +55,7 @@ fn move_call_agrees<'a>(
 }
 
 fn answer_agrees<'a>(
-    fd: i32,
+    stored: &mut Stored,
     call: Call,
     image: &'a [u32],
     query: &'a [u32],
@@ -68,14 +68,16 @@ fn answer_agrees<'a>(
     let kind = call.kind;
     match kind {
         4 => move_call_agrees(call, image, query, nodes, cells, trail, arrays, workers),
-        5 => read_call_agrees(fd, call, image, query, nodes, cells, trail, arrays, workers),
+        5 => read_call_agrees(
+            stored, call, image, query, nodes, cells, trail, arrays, workers,
+        ),
         _ => change_agrees(call, image, query, nodes, cells, trail, arrays, workers),
     }
 }
 
 // All slices are lent with the lengths that the call asks for; image and query have a spare word too.
 fn lent_agrees<'a>(
-    fd: i32,
+    stored: &mut Stored,
     call: Call,
     image: &'a [u32],
     query: &'a [u32],
@@ -93,7 +95,7 @@ fn lent_agrees<'a>(
     let image_words = part(image.len(), 6, call);
     let query_words = part(query.len(), 7, call);
     answer_agrees(
-        fd,
+        stored,
         call,
         &image[..image_words],
         &query[..query_words],
@@ -107,7 +109,7 @@ fn lent_agrees<'a>(
 
 // The answer and the digest of all words agree with what is stored.
 pub fn call_agrees<'a>(
-    fd: i32,
+    stored: &mut Stored,
     image: &'a [u32],
     query: &'a [u32],
     nodes: &mut [u32],
@@ -117,10 +119,12 @@ pub fn call_agrees<'a>(
     workers: &mut [u32],
     tally: &mut [u32],
 ) -> bool {
-    let call = read_call(fd);
-    let high = next_word(fd) as u64;
-    let low = next_word(fd) as u64;
-    let good = lent_agrees(fd, call, image, query, nodes, cells, trail, arrays, workers);
+    let call = read_call(stored);
+    let high = next_word(stored) as u64;
+    let low = next_word(stored) as u64;
+    let good = lent_agrees(
+        stored, call, image, query, nodes, cells, trail, arrays, workers,
+    );
     count_answer(tally, call);
     if memory_digest(nodes, cells, trail, arrays, workers) != high * 4294967296 + low {
         return false;

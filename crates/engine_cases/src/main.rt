@@ -10,11 +10,17 @@ mod schedule;
 mod stored;
 mod tally;
 
-use stored::next_word;
+use std::{fs, io};
+use stored::{Stored, next_word};
 use tally::{say_agreed, say_outcomes, say_refusals};
 
 // Every slice has a spare word at its end, for the calls that lend one more than they should.
-fn schedules(fd: i32, count: u32, tally: &mut [u32; 128]) {
+fn schedules(
+    rt: &impl Print,
+    stored: &mut Stored,
+    count: u32,
+    tally: &mut [u32; 128],
+) -> io::Result<()> {
     let mut image = [0u32; 2048];
     let mut query = [0u32; 512];
     let mut nodes = [0u32; 257];
@@ -25,7 +31,8 @@ fn schedules(fd: i32, count: u32, tally: &mut [u32; 128]) {
     let mut i: u32 = 0;
     while i < count {
         schedule::schedule(
-            fd,
+            rt,
+            stored,
             i,
             &mut image,
             &mut query,
@@ -35,28 +42,24 @@ fn schedules(fd: i32, count: u32, tally: &mut [u32; 128]) {
             &mut arrays,
             &mut workers,
             tally,
-        );
+        )?;
         i += 1;
     }
+    Ok(())
 }
 
-fn say_all(tally: &[u32; 128]) {
-    say_outcomes(tally);
-    say_refusals(tally);
-    say_agreed(tally, 0, 1, b" schedules agree\n");
-    say_agreed(tally, 2, 3, b" calls agree\n");
-    say_agreed(tally, 4, 5, b" damaged memories agree\n");
+fn say_all(rt: &impl Print, tally: &[u32; 128]) -> io::Result<()> {
+    say_outcomes(rt, tally)?;
+    say_refusals(rt, tally)?;
+    say_agreed(rt, tally, 0, 1, " schedules agree\n")?;
+    say_agreed(rt, tally, 2, 3, " calls agree\n")?;
+    say_agreed(rt, tally, 4, 5, " damaged memories agree\n")
 }
 
-fn main() {
-    let fd = os::open_read(b"cases");
-    if fd < 0 {
-        os::fail(b"cases");
-        return;
-    }
-    let count = next_word(fd);
+fn main(rt: HostRuntime) -> io::Result<()> {
+    let mut stored = Stored::new(fs::read(&rt, "cases")?);
+    let count = next_word(&mut stored);
     let mut tally = [0u32; 128];
-    schedules(fd, count, &mut tally);
-    libc::close(fd);
-    say_all(&tally);
+    schedules(&rt, &mut stored, count, &mut tally)?;
+    say_all(&rt, &tally)
 }

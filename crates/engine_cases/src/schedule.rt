@@ -3,13 +3,13 @@ ghost use Rattle.std.specs.Prelude.{◌<◌};
 
 use crate::calling::call_agrees;
 use crate::damage::changed_agrees;
-use crate::stored::{next_word, read_list};
+use crate::stored::{Stored, next_word, read_list};
 use crate::tally::count;
-use libc::STDOUT_FILENO;
+use std::io;
 
 // A call on the memory as it is, or with one word changed.
 fn turn_agrees(
-    fd: i32,
+    stored: &mut Stored,
     slice: u32,
     image: &mut [u32],
     query: &mut [u32],
@@ -22,11 +22,11 @@ fn turn_agrees(
 ) -> bool {
     if slice == 0 {
         return call_agrees(
-            fd, image, query, nodes, cells, trail, arrays, workers, tally,
+            stored, image, query, nodes, cells, trail, arrays, workers, tally,
         );
     }
     changed_agrees(
-        fd, slice, image, query, nodes, cells, trail, arrays, workers, tally,
+        stored, slice, image, query, nodes, cells, trail, arrays, workers, tally,
     )
 }
 
@@ -51,16 +51,13 @@ pub fn count_agreed(tally: &mut [u32], at: usize, good: bool)
     }
 }
 
-fn say_differs(schedule: u32, left: u32) {
-    io::write_all(STDOUT_FILENO, b"differs: schedule ");
-    io::print_decimal(STDOUT_FILENO, schedule as u64);
-    io::write_all(STDOUT_FILENO, b", calls left ");
-    io::print_decimal(STDOUT_FILENO, left as u64);
-    io::write_all(STDOUT_FILENO, b"\n");
+fn say_differs(rt: &impl Print, schedule: u32, left: u32) -> io::Result<()> {
+    println!(rt; "differs: schedule {schedule}, calls left {left}")
 }
 
 fn turn(
-    fd: i32,
+    rt: &impl Print,
+    stored: &mut Stored,
     schedule: u32,
     left: u32,
     image: &mut [u32],
@@ -71,20 +68,21 @@ fn turn(
     arrays: &mut [u32; 8193],
     workers: &mut [u32; 5],
     tally: &mut [u32; 128],
-) -> bool {
-    let slice = next_word(fd);
+) -> io::Result<bool> {
+    let slice = next_word(stored);
     let good = turn_agrees(
-        fd, slice, image, query, nodes, cells, trail, arrays, workers, tally,
+        stored, slice, image, query, nodes, cells, trail, arrays, workers, tally,
     );
     count_turn(tally, slice, good);
     if !good {
-        say_differs(schedule, left);
+        say_differs(rt, schedule, left)?;
     }
-    good
+    Ok(good)
 }
 
 fn turns(
-    fd: i32,
+    rt: &impl Print,
+    stored: &mut Stored,
     schedule: u32,
     image: &mut [u32],
     query: &mut [u32],
@@ -94,23 +92,24 @@ fn turns(
     arrays: &mut [u32; 8193],
     workers: &mut [u32; 5],
     tally: &mut [u32; 128],
-) -> bool {
+) -> io::Result<bool> {
     let mut all = true;
-    let mut left = next_word(fd);
+    let mut left = next_word(stored);
     while 0 < left {
         if !turn(
-            fd, schedule, left, image, query, nodes, cells, trail, arrays, workers, tally,
-        ) {
+            rt, stored, schedule, left, image, query, nodes, cells, trail, arrays, workers, tally,
+        )? {
             all = false;
         }
         left -= 1;
     }
-    all
+    Ok(all)
 }
 
 // The memory is what the schedule before has left.
 pub fn schedule(
-    fd: i32,
+    rt: &impl Print,
+    stored: &mut Stored,
     number: u32,
     image: &mut [u32],
     query: &mut [u32],
@@ -120,11 +119,12 @@ pub fn schedule(
     arrays: &mut [u32; 8193],
     workers: &mut [u32; 5],
     tally: &mut [u32; 128],
-) {
-    let image_words = read_list(fd, image);
-    let query_words = read_list(fd, query);
+) -> io::Result<()> {
+    let image_words = read_list(stored, image);
+    let query_words = read_list(stored, query);
     let good = turns(
-        fd,
+        rt,
+        stored,
         number,
         &mut image[..image_words],
         &mut query[..query_words],
@@ -134,6 +134,7 @@ pub fn schedule(
         arrays,
         workers,
         tally,
-    );
+    )?;
     count_agreed(tally, 0, good);
+    Ok(())
 }

@@ -24,46 +24,71 @@ pub struct Change {
     pub value: u32,
 }
 
+// The file, and how many of its bytes have been read.
+#[derive(Drop)]
+pub struct Stored {
+    bytes: Vec<u8>,
+    at: usize,
+}
+
+impl Stored {
+    pub fn new(bytes: Vec<u8>) -> Stored {
+        Stored { bytes, at: 0 }
+    }
+}
+
 fn word(a: u8, b: u8, c: u8, d: u8) -> u32 {
     ((a as u32 * 256 + b as u32) * 256 + c as u32) * 256 + d as u32
 }
 
-pub fn next_word(fd: i32) -> u32 {
-    let mut four = [0u8; 4];
-    io::read_full(fd, &mut four);
-    word(four[0], four[1], four[2], four[3])
+fn next_byte(stored: &mut Stored) -> u8 {
+    if stored.bytes.len() <= stored.at {
+        return 0;
+    }
+    let byte = stored.bytes[stored.at];
+    stored.at += 1;
+    byte
 }
 
-pub fn read_words(fd: i32, words: &mut [u32]) {
+// A file that ends within a word reads on as zeros.
+pub fn next_word(stored: &mut Stored) -> u32 {
+    let a = next_byte(stored);
+    let b = next_byte(stored);
+    let c = next_byte(stored);
+    let d = next_byte(stored);
+    word(a, b, c, d)
+}
+
+pub fn read_words(stored: &mut Stored, words: &mut [u32]) {
     let mut i: usize = 0;
     while i < words.len() {
-        words[i] = next_word(fd);
+        words[i] = next_word(stored);
         i += 1;
     }
 }
 
 // A stored list: its length, then its words. Answers the length, or 0 where the list does not find room.
-pub fn read_list(fd: i32, words: &mut [u32]) -> usize
+pub fn read_list(stored: &mut Stored, words: &mut [u32]) -> usize
     ensures { result ≤ length words.new }
 {
-    let size = next_word(fd) as usize;
+    let size = next_word(stored) as usize;
     if words.len() < size {
         return 0;
     }
-    read_words(fd, &mut words[..size]);
+    read_words(stored, &mut words[..size]);
     size
 }
 
-pub fn read_call(fd: i32) -> Call {
-    let kind = next_word(fd);
-    let worker = next_word(fd);
-    let given = next_word(fd);
-    let slice = next_word(fd);
-    let length = next_word(fd);
-    let number = next_word(fd);
-    let first = next_word(fd);
-    let second = next_word(fd);
-    let third = next_word(fd);
+pub fn read_call(stored: &mut Stored) -> Call {
+    let kind = next_word(stored);
+    let worker = next_word(stored);
+    let given = next_word(stored);
+    let slice = next_word(stored);
+    let length = next_word(stored);
+    let number = next_word(stored);
+    let first = next_word(stored);
+    let second = next_word(stored);
+    let third = next_word(stored);
     Call {
         kind,
         worker,
@@ -77,9 +102,9 @@ pub fn read_call(fd: i32) -> Call {
     }
 }
 
-pub fn read_change(fd: i32, slice: u32) -> Change {
-    let index = next_word(fd);
-    let value = next_word(fd);
+pub fn read_change(stored: &mut Stored, slice: u32) -> Change {
+    let index = next_word(stored);
+    let value = next_word(stored);
     Change {
         slice,
         index,

@@ -1,6 +1,6 @@
 // How often each thing was met: schedules, calls and damaged memories, and those of them that agree; each outcome; each refusal.
 use crate::stored::Call;
-use libc::STDOUT_FILENO;
+use std::io;
 
 pub fn count(tally: &mut [u32], at: usize) {
     if tally.len() <= at {
@@ -35,49 +35,53 @@ fn met(tally: &[u32], at: usize) -> u64 {
     words::word_at(tally, at) as u64
 }
 
-fn say(tally: &[u32], at: usize, what: &[u8]) {
-    io::write_all(STDOUT_FILENO, what);
-    io::print_decimal(STDOUT_FILENO, met(tally, at));
-    io::write_all(STDOUT_FILENO, b"\n");
+fn say(rt: &impl Print, tally: &[u32], at: usize, what: &str) -> io::Result<()> {
+    let times = met(tally, at);
+    println!(rt; "{what}{times}")
 }
 
-pub fn say_outcomes(tally: &[u32]) {
-    say(tally, 8, b"Tried ");
-    say(tally, 9, b"Extended ");
-    say(tally, 10, b"Answer ");
-    say(tally, 11, b"Back ");
-    say(tally, 12, b"Left ");
-    say(tally, 13, b"Wait ");
-    say(tally, 14, b"Finished ");
-    say(tally, 15, b"Spent ");
-    say(tally, 32, b"Full ");
-    say(tally, 41, b"loaded ");
-    say(tally, 44, b"moved ");
-    say(tally, 45, b"read ");
+pub fn say_outcomes(rt: &impl Print, tally: &[u32]) -> io::Result<()> {
+    say(rt, tally, 8, "Tried ")?;
+    say(rt, tally, 9, "Extended ")?;
+    say(rt, tally, 10, "Answer ")?;
+    say(rt, tally, 11, "Back ")?;
+    say(rt, tally, 12, "Left ")?;
+    say(rt, tally, 13, "Wait ")?;
+    say(rt, tally, 14, "Finished ")?;
+    say(rt, tally, 15, "Spent ")?;
+    say(rt, tally, 32, "Full ")?;
+    say(rt, tally, 41, "loaded ")?;
+    say(rt, tally, 44, "moved ")?;
+    say(rt, tally, 45, "read ")
 }
 
-fn say_refusal(tally: &[u32], number: u32) {
+fn say_refusal(rt: &impl Print, tally: &[u32], number: u32) -> io::Result<()> {
     let at = 64 + number as usize;
     if met(tally, at) == 0 {
-        return;
+        return Ok(());
     }
-    io::write_all(STDOUT_FILENO, b"refused with ");
-    io::print_decimal(STDOUT_FILENO, number as u64);
-    say(tally, at, b": ");
+    print!(rt; "refused with {number}")?;
+    say(rt, tally, at, ": ")
 }
 
-pub fn say_refusals(tally: &[u32]) {
+pub fn say_refusals(rt: &impl Print, tally: &[u32]) -> io::Result<()> {
     let mut number: u32 = 0;
     while number < 64 {
-        say_refusal(tally, number);
+        say_refusal(rt, tally, number)?;
         number += 1;
     }
+    Ok(())
 }
 
 // So many of so many agree.
-pub fn say_agreed(tally: &[u32], at: usize, agreed: usize, what: &[u8]) {
-    io::print_decimal(STDOUT_FILENO, met(tally, agreed));
-    io::write_all(STDOUT_FILENO, b" of ");
-    io::print_decimal(STDOUT_FILENO, met(tally, at));
-    io::write_all(STDOUT_FILENO, what);
+pub fn say_agreed(
+    rt: &impl Print,
+    tally: &[u32],
+    at: usize,
+    agreed: usize,
+    what: &str,
+) -> io::Result<()> {
+    let good = met(tally, agreed);
+    let all = met(tally, at);
+    print!(rt; "{good} of {all}{what}")
 }

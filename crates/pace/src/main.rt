@@ -2,11 +2,14 @@
 // The first argument names a file of words, most significant byte first: query length, query, image. The second says how many searches. Without arguments: the file `words`, once; it is workload w4 of `bench/workloads.py`, whose 10,000 answers are passed over.
 #![tactic(auto)]
 
-ghost use Rattle.std.specs.Prelude.{◌≡◌, ◌+◌, ◌≤◌, ◌<◌, length};
+ghost use Rattle.std.specs.Prelude.{◌≡◌, ◌+◌, ◌≤◌, ◌<◌, length, IfOk};
 ghost use Rattle.turns.specs.Hand.{AtHand};
 
-use libc::STDOUT_FILENO;
 use model::{Outcome, Verdict};
+use std::env::Env;
+use std::io::Read;
+use std::rt::Files;
+use std::{env, fs, io};
 
 fn word(a: u8, b: u8, c: u8, d: u8) -> u32 {
     ((a as u32 * 256 + b as u32) * 256 + c as u32) * 256 + d as u32
@@ -184,61 +187,66 @@ fn in_fresh_memory<'a>(image: &'a [u32], query: &'a [u32], times: u32) -> u64 {
     )
 }
 
-fn say(times: u32, total: u64) {
-    io::print_decimal(STDOUT_FILENO, times as u64);
-    io::write_all(STDOUT_FILENO, b" runs, ");
-    io::print_decimal(STDOUT_FILENO, total);
-    io::write_all(STDOUT_FILENO, b" steps\n");
+fn say(rt: &impl Print, times: u32, total: u64) -> io::Result<()> {
+    println!(rt; "{times} runs, {total} steps")
 }
 
 // The pair is judged once, as a public call judges it before it runs.
-fn checked<'a>(image: &'a [u32], query: &'a [u32], times: u32) {
+fn checked<'a>(rt: &impl Print, image: &'a [u32], query: &'a [u32], times: u32) -> io::Result<()> {
     match image::check_query(image, query) {
-        Verdict::Legal => say(times, in_fresh_memory(image, query, times)),
-        Verdict::Refused(_, _) => {
-            io::write_all(STDOUT_FILENO, b"refused\n");
-        }
+        Verdict::Legal => say(rt, times, in_fresh_memory(image, query, times)),
+        Verdict::Refused(_, _) => println!(rt; "refused"),
     }
 }
 
 // Takes the words apart into query and image.
-fn parted(words: &[u32], times: u32) {
+fn parted(rt: &impl Print, words: &[u32], times: u32) -> io::Result<()> {
     let end = 1 + words::word_at(words, 0) as usize;
     if words.len() < end {
-        io::write_all(STDOUT_FILENO, b"refused\n");
-        return;
+        return println!(rt; "refused");
     }
-    checked(&words[end..], &words[1..end], times);
+    checked(rt, &words[end..], &words[1..end], times)
 }
 
-fn open() -> i32 {
-    if os::arg_count() < 2 {
-        return os::open_read(b"words");
+fn open<R: Files + Env + Alloc>(rt: &R) -> io::Result<R::File> {
+    match env::args(rt)?.nth(1) {
+        Some(path) => fs::open(rt, path),
+        None => fs::open(rt, "words"),
     }
-    let mut path = io::buffer();
-    let size = os::arg(1, &mut path);
-    os::open_read(&path[..size])
 }
 
-fn times() -> u32 {
-    if os::arg_count() < 3 {
-        return 1;
+// An argument of more than 16 bytes is no number, and counts as an empty one.
+fn times<R: Env + Alloc>(rt: &R) -> io::Result<u32> {
+    let text = match env::args(rt)?.nth(2) {
+        Some(text) => text,
+        None => return Ok(1),
+    };
+    if 16 < text.len() {
+        return Ok(0);
     }
-    let mut text = [0u8; 16];
-    let size = os::arg(2, &mut text);
-    number(&text[..size])
+    Ok(number(text.as_bytes()))
 }
 
-fn main() {
-    let fd = open();
-    if fd < 0 {
-        os::fail(b"words");
-        return;
+// Reads until the bytes are full or the file ends, and answers how many it put there: of a longer file the rest stays unread.
+fn read_full<F: Read>(file: &mut F, bytes: &mut [u8]) -> io::Result<usize>
+    ensures { IfOk result (λ size. size ≤ length bytes.new) }
+{
+    let mut done: usize = 0;
+    while done < bytes.len() {
+        let size = file.read(&mut bytes[done..])?;
+        if size == 0 {
+            return Ok(done);
+        }
+        done += size;
     }
-    let mut bytes = io::large_buffer();
-    let size = io::read_full(fd, &mut bytes);
-    libc::close(fd);
+    Ok(done)
+}
+
+fn main(rt: HostRuntime) -> io::Result<()> {
+    let mut file = open(&rt)?;
+    let mut bytes = [0u8; 65536];
+    let size = read_full(&mut file, &mut bytes)?;
     let mut words = [0u32; 16384];
     lay_out(&bytes[..size], &mut words);
-    parted(&words[..size / 4], times());
+    parted(&rt, &words[..size / 4], times(&rt)?)
 }

@@ -2,10 +2,10 @@
 // It prints a line for each case that does not agree, and then how many agree.
 #![tactic(auto)]
 
-ghost use Rattle.std.specs.Prelude.{◌≡◌, ◌≤◌, length};
+ghost use Rattle.std.specs.Prelude.{◌≡◌, ◌≤◌, length, IfOk};
 
-use libc::STDOUT_FILENO;
 use model::Written;
+use std::{fs, io};
 
 // Room for the spread form of an image of 131,071 words whose clauses are facts of arity 15.
 fn space() -> [u32; 280000]
@@ -18,17 +18,35 @@ fn word(a: u8, b: u8, c: u8, d: u8) -> u32 {
     ((a as u32 * 256 + b as u32) * 256 + c as u32) * 256 + d as u32
 }
 
-// Words stand most significant byte first; past the end of the file they are 0.
-fn next_word(fd: i32) -> u32 {
-    let mut four = [0u8; 4];
-    io::read_full(fd, &mut four);
-    word(four[0], four[1], four[2], four[3])
+// The file, and how many of its bytes have been read.
+#[derive(Drop)]
+struct Stored {
+    bytes: Vec<u8>,
+    at: usize,
 }
 
-fn read_words(fd: i32, words: &mut [u32]) {
+fn next_byte(stored: &mut Stored) -> u8 {
+    if stored.bytes.len() <= stored.at {
+        return 0;
+    }
+    let byte = stored.bytes[stored.at];
+    stored.at += 1;
+    byte
+}
+
+// Words stand most significant byte first; past the end of the file they are 0, and a file that ends within a word reads on as zeros.
+fn next_word(stored: &mut Stored) -> u32 {
+    let a = next_byte(stored);
+    let b = next_byte(stored);
+    let c = next_byte(stored);
+    let d = next_byte(stored);
+    word(a, b, c, d)
+}
+
+fn read_words(stored: &mut Stored, words: &mut [u32]) {
     let mut i: usize = 0;
     while i < words.len() {
-        words[i] = next_word(fd);
+        words[i] = next_word(stored);
         i += 1;
     }
 }
@@ -47,20 +65,20 @@ fn repeat(words: &mut [u32], from: usize, step: usize) {
 }
 
 // A stored list: the words that stand in the file, how many of the last are repeated, the length in all. Answers the length.
-fn read_list(fd: i32, list: &mut [u32]) -> usize
+fn read_list(stored: &mut Stored, list: &mut [u32]) -> usize
     ensures { result ≤ length list.new }
 {
-    let stored = next_word(fd) as usize;
-    let step = next_word(fd) as usize;
-    let size = next_word(fd) as usize;
-    if size < stored {
+    let standing = next_word(stored) as usize;
+    let step = next_word(stored) as usize;
+    let size = next_word(stored) as usize;
+    if size < standing {
         return 0;
     }
     if list.len() < size {
         return 0;
     }
-    read_words(fd, &mut list[..stored]);
-    repeat(&mut list[..size], stored, step);
+    read_words(stored, &mut list[..standing]);
+    repeat(&mut list[..size], standing, step);
     size
 }
 
@@ -125,13 +143,13 @@ fn call(which: u32, input: &[u32], room: &mut [u32]) -> Written {
 }
 
 // A stored case: which call, the room's size, number and value of the answer, the input, the words written.
-fn agrees(fd: i32, input: &mut [u32], room: &mut [u32], words: &mut [u32]) -> bool {
-    let which = next_word(fd);
-    let size = next_word(fd) as usize;
-    let number = next_word(fd);
-    let value = next_word(fd) as usize;
-    let given = read_list(fd, input);
-    let count = read_list(fd, words);
+fn agrees(stored: &mut Stored, input: &mut [u32], room: &mut [u32], words: &mut [u32]) -> bool {
+    let which = next_word(stored);
+    let size = next_word(stored) as usize;
+    let number = next_word(stored);
+    let value = next_word(stored) as usize;
+    let given = read_list(stored, input);
+    let count = read_list(stored, words);
     if room.len() < size {
         return false;
     }
@@ -143,48 +161,53 @@ fn agrees(fd: i32, input: &mut [u32], room: &mut [u32], words: &mut [u32]) -> bo
     holds(&room[..size], &words[..count])
 }
 
-fn say(word: &[u8], n: u64) {
-    io::write_all(STDOUT_FILENO, word);
-    io::print_decimal(STDOUT_FILENO, n);
-    io::write_all(STDOUT_FILENO, b"\n");
+fn say(rt: &impl Print, word: &str, n: u64) -> io::Result<()> {
+    println!(rt; "{word}{n}")
 }
 
 // 1 for a case that agrees.
-fn tell(fd: i32, i: u32, input: &mut [u32], room: &mut [u32], words: &mut [u32]) -> u32
-    ensures { result ≤ 1 }
+fn tell(
+    rt: &impl Print,
+    stored: &mut Stored,
+    i: u32,
+    input: &mut [u32],
+    room: &mut [u32],
+    words: &mut [u32],
+) -> io::Result<u32>
+    ensures { IfOk result (λ good. good ≤ 1) }
 {
-    if agrees(fd, input, room, words) {
-        return 1;
+    if agrees(stored, input, room, words) {
+        return Ok(1);
     }
-    say(b"case fails: ", i as u64);
-    0
+    say(rt, "case fails: ", i as u64)?;
+    Ok(0)
 }
 
 // Answers how many agree.
-fn run(fd: i32, cases: u32, input: &mut [u32], room: &mut [u32], words: &mut [u32]) -> u32 {
+fn run(
+    rt: &impl Print,
+    stored: &mut Stored,
+    cases: u32,
+    input: &mut [u32],
+    room: &mut [u32],
+    words: &mut [u32],
+) -> io::Result<u32> {
     let mut good: u32 = 0;
     let mut i: u32 = 0;
     while i < cases {
-        good += tell(fd, i, input, room, words);
+        good += tell(rt, stored, i, input, room, words)?;
         i += 1;
     }
-    good
+    Ok(good)
 }
 
-fn main() {
-    let fd = os::open_read(b"cases");
-    if fd < 0 {
-        os::fail(b"cases");
-        return;
-    }
-    let cases = next_word(fd);
+fn main(rt: HostRuntime) -> io::Result<()> {
+    let bytes = fs::read(&rt, "cases")?;
+    let mut stored = Stored { bytes, at: 0 };
+    let cases = next_word(&mut stored);
     let mut input = space();
     let mut room = space();
     let mut words = space();
-    let good = run(fd, cases, &mut input, &mut room, &mut words);
-    libc::close(fd);
-    io::print_decimal(STDOUT_FILENO, good as u64);
-    io::write_all(STDOUT_FILENO, b" of ");
-    io::print_decimal(STDOUT_FILENO, cases as u64);
-    io::write_all(STDOUT_FILENO, b" cases agree\n");
+    let good = run(&rt, &mut stored, cases, &mut input, &mut room, &mut words)?;
+    println!(rt; "{good} of {cases} cases agree")
 }
