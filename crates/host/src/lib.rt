@@ -12,10 +12,9 @@ ghost use Rattle.model.specs.Spread.{pack, unpack};
 ghost use Rattle.host.specs.Near.{Near};
 ghost use Rattle.host.specs.Answers.{answer_of_check, filled, of_writing};
 
-pub use search::{cumbwael_load, cumbwael_move, cumbwael_read, cumbwael_run, cumbwael_step};
-
 use answers::{of_check, of_written};
 use model::{Fault, Refusal, Verdict};
+pub use search::{cumbwael_load, cumbwael_move, cumbwael_read, cumbwael_run, cumbwael_step};
 
 // What every other call answers: the number of the refusal, 0 if there is none, and its position; else what was done. What does not apply is 0.
 #[repr(C)]

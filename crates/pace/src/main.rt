@@ -6,10 +6,10 @@ ghost use Rattle.std.specs.Prelude.{◌≡◌, ◌+◌, ◌≤◌, ◌<◌, leng
 ghost use Rattle.turns.specs.Hand.{AtHand};
 
 use model::{Outcome, Verdict};
-use std::env::Env;
+use std::env::{Env, FillError};
 use std::io::Read;
 use std::rt::Files;
-use std::{env, fs, io};
+use std::{fs, io, str};
 
 fn word(a: u8, b: u8, c: u8, d: u8) -> u32 {
     ((a as u32 * 256 + b as u32) * 256 + c as u32) * 256 + d as u32
@@ -208,23 +208,31 @@ fn parted(rt: &impl Print, words: &[u32], times: u32) -> io::Result<()> {
     checked(rt, &words[end..], &words[1..end], times)
 }
 
-fn open<R: Files + Env + Alloc>(rt: &R) -> io::Result<R::File> {
-    match env::args(rt)?.nth(1) {
-        Some(path) => fs::open(rt, path),
-        None => fs::open(rt, "words"),
+// A name that is no text is that of no file, as an empty one.
+fn open_named<R: Files>(rt: &R, name: &[u8]) -> io::Result<R::File> {
+    match str::from_utf8(name) {
+        Ok(path) => fs::open(rt, path),
+        Err(_) => fs::open(rt, ""),
+    }
+}
+
+fn open<R: Files + Env>(rt: &R) -> io::Result<R::File> {
+    let mut path = [0u8; 4096];
+    match rt.arg(1, &mut path) {
+        Ok(size) => open_named(rt, &path[..size]),
+        Err(FillError::NotPresent) => fs::open(rt, "words"),
+        Err(FillError::TooLong) => fs::open(rt, ""),
     }
 }
 
 // An argument of more than 16 bytes is no number, and counts as an empty one.
-fn times<R: Env + Alloc>(rt: &R) -> io::Result<u32> {
-    let text = match env::args(rt)?.nth(2) {
-        Some(text) => text,
-        None => return Ok(1),
-    };
-    if 16 < text.len() {
-        return Ok(0);
+fn times(rt: &impl Env) -> u32 {
+    let mut text = [0u8; 16];
+    match rt.arg(2, &mut text) {
+        Ok(size) => number(&text[..size]),
+        Err(FillError::NotPresent) => 1,
+        Err(FillError::TooLong) => 0,
     }
-    Ok(number(text.as_bytes()))
 }
 
 // Reads until the bytes are full or the file ends, and answers how many it put there: of a longer file the rest stays unread.
@@ -248,5 +256,5 @@ fn main(rt: HostRuntime) -> io::Result<()> {
     let size = read_full(&mut file, &mut bytes)?;
     let mut words = [0u32; 16384];
     lay_out(&bytes[..size], &mut words);
-    parted(&rt, &words[..size / 4], times(&rt)?)
+    parted(&rt, &words[..size / 4], times(&rt))
 }
