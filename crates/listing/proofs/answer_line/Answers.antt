@@ -22,7 +22,7 @@ slice_bounds-answer_line-end c = let a = c.args in sym (length-take-le c.read_an
 
 pub returns : goal.returns
 returns c = let a = c.args in (
-      λ nodes trail workers.
-          answer-told a.query.now (memory nodes a.cells.now trail a.arrays.now workers) _ _ _ (c.read_answer-count.ensures nodes trail workers) a.steps _ a.line.now _ c.requires.1 c.answer_line.ensures.0,
-      c.answer_line.ensures.1,
-    )
+  λ nodes trail workers.
+      answer-told a.query.now (memory nodes a.cells.now trail a.arrays.now workers) _ _ _ (c.read_answer-count.ensures nodes trail workers) a.steps _ a.line.now _ c.requires.1 c.answer_line.ensures.0,
+  c.answer_line.ensures.1,
+)
