@@ -7,6 +7,8 @@ ghost use Rattle.model.specs.Calls.{lengths_right, load_refusal, call_refusal, l
 
 use model::{MoveAnswer, Refusal, RunAnswer, StepAnswer, Verdict, Written};
 
+const WORKERS: u32 = 4;
+
 fn lengths_right(
     nodes: &[u32],
     cells: &[u32],
@@ -67,10 +69,11 @@ fn call_refusal<'a>(
     ) {
         return Verdict::Refused(refusal, at);
     }
-    if !audit::sound(image, query, nodes, cells, trail, arrays, workers) {
+    let whole = audit::sound(image, query, nodes, cells, trail, arrays, workers);
+    if !whole {
         return Verdict::Refused(Refusal::Damaged, 0);
     }
-    if 4 <= worker {
+    if WORKERS <= worker {
         return Verdict::Refused(Refusal::NoWorker, 0);
     }
     Verdict::Legal

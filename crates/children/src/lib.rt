@@ -8,6 +8,8 @@ ghost use Rattle.children.specs.Children.{Counted, lost, gained, followed};
 
 use model::Kind;
 
+const ROOT: u32 = 0;
+
 // Has a node a child: its count, and a search where the table has no word for it.
 pub fn has_child(nodes: &[u32], children: &[u32], node: u32) -> bool
     requires { Counted nodes.now children.now }
@@ -25,7 +27,7 @@ pub fn has_child(nodes: &[u32], children: &[u32], node: u32) -> bool
 pub fn follow(nodes: &[u32], children: &mut [u32], slot: u32, before: u32)
     ensures { children.new ≡ followed children.old slot before (get_or nodes.now (4 * slot) 0) }
 {
-    if slot == 0 {
+    if slot == ROOT {
         return;
     }
     if 64 <= slot {

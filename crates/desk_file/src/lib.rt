@@ -7,6 +7,9 @@ ghost use Rattle.desk_model.specs.Desk.{file_parts, laid, lay_call};
 
 use desk_model::FileParts;
 
+// The longest query that a search takes, in words.
+const QUERY_LIMIT: usize = 272;
+
 fn word_of(a: u8, b: u8, c: u8, d: u8) -> u32
     ensures { result ≡ ((a * 256 + b) * 256 + c) * 256 + d }
 {
@@ -33,7 +36,7 @@ fn file_parts(bytes: &[u8]) -> FileParts
         return FileParts::Unfit;
     }
     let size = word_of_bytes(bytes, 0) as usize;
-    if 272 < size {
+    if QUERY_LIMIT < size {
         return FileParts::Unfit;
     }
     if length / 4 < 1 + size {

@@ -9,6 +9,8 @@ ghost use Rattle.goals.specs.Number.{goal_number};
 
 use model::FirstGoal;
 
+const ROOT: u32 = 0;
+
 // The words that hold a slot's clause: the query's for the root.
 pub fn clause_words<'a>(image: &'a [u32], query: &'a [u32], nodes: &[u32], slot: u32) -> &'a [u32]
     ensures { result.now ≡ clause_words image.now query.now nodes.now slot }
@@ -116,7 +118,7 @@ fn climb<'a>(
     if depth == 0 {
         return 0;
     }
-    if slot == 0 {
+    if slot == ROOT {
         return 0;
     }
     let above = memory::parent(*nodes, slot);

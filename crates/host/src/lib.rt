@@ -92,7 +92,8 @@ pub fn cumbwael_check(bytes: &[u8]) -> u64
     if 131072 < count {
         count = 131072;
     }
-    if bytes.len() % 4 != 0 {
+    let rest = bytes.len() % 4;
+    if rest != 0 {
         return verdict_number(Verdict::Refused(Refusal::Image(Fault::EndsEarly), count));
     }
     if count <= 1024 {

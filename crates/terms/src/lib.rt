@@ -7,6 +7,9 @@ ghost use Rattle.model.specs.Terms.{says, found_said, dereference, argument_of, 
 
 use model::{CellAddr, Found, Pairing, Unified, VarNo};
 
+// What a cell says where nothing is bound there.
+const UNBOUND: u32 = 0;
+
 // What a cell says: its own VNO stands for the array word at its number.
 fn says(array: &[u32], cells: &[u32], at: CellAddr) -> u32
     ensures { result ≡ says array.now cells.now at.0 }
@@ -22,7 +25,7 @@ fn says(array: &[u32], cells: &[u32], at: CellAddr) -> u32
 fn found(cells: &[u32], said: u32, at: CellAddr) -> Found
     ensures { result ≡ found_said cells.now said at.0 }
 {
-    if said != 0 {
+    if said != UNBOUND {
         return Found::Constant(words::value(said));
     }
     let number = words::value(words::word_at(cells, at.0 as usize));

@@ -11,6 +11,8 @@ use crate::Progress;
 use crate::taking::take_next;
 use model::Outcome;
 
+const SLOTS: u32 = 64;
+
 // Whether a node is live, and then the predicate that its first goal calls and the goal's place.
 #[derive(Clone, Copy)]
 pub enum LiveGoal {
@@ -83,7 +85,7 @@ pub fn live_advance<'a>(
         return Progress::Did(Outcome::Wait);
     }
     let child = memory::lowest_free(nodes);
-    if 64 <= child {
+    if SLOTS <= child {
         return Progress::Did(Outcome::Full);
     }
     take_next(

@@ -16,14 +16,14 @@ pub returns-in-Refused : goal.returns-in-Refused
 unfolding call_refusal
 returns-in-Refused c = let a = c.args in ap (λ (v : Verdict). if_legal v (cond (sound a.image.now a.query.now (memory a.nodes.now a.cells.now a.trail.now a.arrays.now a.workers.now)) (cond (ltb a.worker 4) Legal (Refused NoWorker 0)) (Refused Damaged 0))) (sym c.in-Refused.is ∙ c.load_refusal.ensures)
 
-pub returns-then-not-sound : goal.returns-then-not-sound
+pub returns-then-not-whole : goal.returns-then-not-whole
 unfolding call_refusal
-returns-then-not-sound c = let a = c.args in ap (λ (b : Bool). cond b (cond (ltb a.worker 4) Legal (Refused NoWorker 0)) (Refused Damaged 0)) (sym (not-true c.sound.result (ap not c.if-not-sound.true)) ∙ c.sound.ensures) ∙ ap (λ (v : Verdict). if_legal v (cond (sound a.image.now a.query.now (memory a.nodes.now a.cells.now a.trail.now a.arrays.now a.workers.now)) (cond (ltb a.worker 4) Legal (Refused NoWorker 0)) (Refused Damaged 0))) (sym c.in_default.is ∙ c.load_refusal.ensures)
+returns-then-not-whole c = let a = c.args in ap (λ (b : Bool). cond b (cond (ltb a.worker 4) Legal (Refused NoWorker 0)) (Refused Damaged 0)) (sym (not-true c.sound-whole.result (ap not c.if-not-whole.true)) ∙ c.sound-whole.ensures) ∙ ap (λ (v : Verdict). if_legal v (cond (sound a.image.now a.query.now (memory a.nodes.now a.cells.now a.trail.now a.arrays.now a.workers.now)) (cond (ltb a.worker 4) Legal (Refused NoWorker 0)) (Refused Damaged 0))) (sym c.in_default.is ∙ c.load_refusal.ensures)
 
-pub returns-then-worker-ge4 : goal.returns-then-worker-ge4
+pub returns-then-worker-ge-WORKERS : goal.returns-then-worker-ge-WORKERS
 unfolding call_refusal
-returns-then-worker-ge4 c = let a = c.args in ap (λ (b : Bool). cond b Legal (Refused NoWorker 0)) (sym (le-ltb a.worker 4 c.if-worker-ge4.true)) ∙ ap (λ (b : Bool). cond b (cond (ltb a.worker 4) Legal (Refused NoWorker 0)) (Refused Damaged 0)) (sym (not-false c.sound.result (ap not c.if-not-sound.false)) ∙ c.sound.ensures) ∙ ap (λ (v : Verdict). if_legal v (cond (sound a.image.now a.query.now (memory a.nodes.now a.cells.now a.trail.now a.arrays.now a.workers.now)) (cond (ltb a.worker 4) Legal (Refused NoWorker 0)) (Refused Damaged 0))) (sym c.in_default.is ∙ c.load_refusal.ensures)
+returns-then-worker-ge-WORKERS c = let a = c.args in ap (λ (b : Bool). cond b Legal (Refused NoWorker 0)) (sym (le-ltb a.worker 4 c.if-worker-ge-WORKERS.true)) ∙ ap (λ (b : Bool). cond b (cond (ltb a.worker 4) Legal (Refused NoWorker 0)) (Refused Damaged 0)) (sym (not-false c.sound-whole.result (ap not c.if-not-whole.false)) ∙ c.sound-whole.ensures) ∙ ap (λ (v : Verdict). if_legal v (cond (sound a.image.now a.query.now (memory a.nodes.now a.cells.now a.trail.now a.arrays.now a.workers.now)) (cond (ltb a.worker 4) Legal (Refused NoWorker 0)) (Refused Damaged 0))) (sym c.in_default.is ∙ c.load_refusal.ensures)
 
 pub returns : goal.returns
 unfolding call_refusal
-returns c = let a = c.args in ap (λ (b : Bool). cond b Legal (Refused NoWorker 0)) (sym (lt-ltb a.worker 4 c.if-worker-ge4.false)) ∙ ap (λ (b : Bool). cond b (cond (ltb a.worker 4) Legal (Refused NoWorker 0)) (Refused Damaged 0)) (sym (not-false c.sound.result (ap not c.if-not-sound.false)) ∙ c.sound.ensures) ∙ ap (λ (v : Verdict). if_legal v (cond (sound a.image.now a.query.now (memory a.nodes.now a.cells.now a.trail.now a.arrays.now a.workers.now)) (cond (ltb a.worker 4) Legal (Refused NoWorker 0)) (Refused Damaged 0))) (sym c.in_default.is ∙ c.load_refusal.ensures)
+returns c = let a = c.args in ap (λ (b : Bool). cond b Legal (Refused NoWorker 0)) (sym (lt-ltb a.worker 4 c.if-worker-ge-WORKERS.false)) ∙ ap (λ (b : Bool). cond b (cond (ltb a.worker 4) Legal (Refused NoWorker 0)) (Refused Damaged 0)) (sym (not-false c.sound-whole.result (ap not c.if-not-whole.false)) ∙ c.sound-whole.ensures) ∙ ap (λ (v : Verdict). if_legal v (cond (sound a.image.now a.query.now (memory a.nodes.now a.cells.now a.trail.now a.arrays.now a.workers.now)) (cond (ltb a.worker 4) Legal (Refused NoWorker 0)) (Refused Damaged 0))) (sym c.in_default.is ∙ c.load_refusal.ensures)

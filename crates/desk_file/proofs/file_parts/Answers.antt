@@ -10,14 +10,14 @@ returns-then-length-eq0 c = parts-empty c.args.bytes.now c.if-length-eq0.true
 pub returns-then-length-ne0 : goal.returns-then-length-ne0
 returns-then-length-ne0 c = parts-broken c.args.bytes.now c.if-length-eq0.false c.if-length-ne0.true
 
-pub returns-then-size-gt272 : goal.returns-then-size-gt272
-returns-then-size-gt272 c = parts-long-query c.args.bytes.now c.if-length-eq0.false (omega (arith, c.if-length-ne0.false)) c.word_of_bytes-size.result c.word_of_bytes-size.ensures c.if-size-gt272.true
+pub returns-then-size-gt-QUERY_LIMIT : goal.returns-then-size-gt-QUERY_LIMIT
+returns-then-size-gt-QUERY_LIMIT c = parts-long-query c.args.bytes.now c.if-length-eq0.false (omega (arith, c.if-length-ne0.false)) c.word_of_bytes-size.result c.word_of_bytes-size.ensures c.if-size-gt-QUERY_LIMIT.true
 
 pub returns-then-length-size : goal.returns-then-length-size
-returns-then-length-size c = parts-short c.args.bytes.now c.if-length-eq0.false (omega (arith, c.if-length-ne0.false)) c.word_of_bytes-size.result c.word_of_bytes-size.ensures c.if-size-gt272.false c.if-length-size.true
+returns-then-length-size c = parts-short c.args.bytes.now c.if-length-eq0.false (omega (arith, c.if-length-ne0.false)) c.word_of_bytes-size.result c.word_of_bytes-size.ensures c.if-size-gt-QUERY_LIMIT.false c.if-length-size.true
 
 pub returns-then-length-size-gt1024 : goal.returns-then-length-size-gt1024
-returns-then-length-size-gt1024 c = parts-long-image c.args.bytes.now c.if-length-eq0.false (omega (arith, c.if-length-ne0.false)) c.word_of_bytes-size.result c.word_of_bytes-size.ensures c.if-size-gt272.false c.if-length-size.false c.if-length-size-gt1024.true
+returns-then-length-size-gt1024 c = parts-long-image c.args.bytes.now c.if-length-eq0.false (omega (arith, c.if-length-ne0.false)) c.word_of_bytes-size.result c.word_of_bytes-size.ensures c.if-size-gt-QUERY_LIMIT.false c.if-length-size.false c.if-length-size-gt1024.true
 
 pub returns : goal.returns
-returns c = parts-fit c.args.bytes.now c.if-length-eq0.false (omega (arith, c.if-length-ne0.false)) c.word_of_bytes-size.result c.word_of_bytes-size.ensures c.if-size-gt272.false c.if-length-size.false c.if-length-size-gt1024.false
+returns c = parts-fit c.args.bytes.now c.if-length-eq0.false (omega (arith, c.if-length-ne0.false)) c.word_of_bytes-size.result c.word_of_bytes-size.ensures c.if-size-gt-QUERY_LIMIT.false c.if-length-size.false c.if-length-size-gt1024.false

@@ -20,10 +20,10 @@ returns-then-depth-eq0 t c =
     let a = c.args in
     number-top a.image.now.now a.query.now.now a.nodes.now.now a.slot a.index a.depth (omega (arith, c.goals_of.ensures)) c.if-depth-eq0.true
 
-pub returns-then-slot-eq0 : goal.returns-then-slot-eq0
-returns-then-slot-eq0 t c =
+pub returns-then-slot-eq-ROOT : goal.returns-then-slot-eq-ROOT
+returns-then-slot-eq-ROOT t c =
     let a = c.args in
-    number-root a.image.now.now a.query.now.now a.nodes.now.now a.slot a.index a.depth (omega (arith, c.goals_of.ensures)) c.if-slot-eq0.true
+    number-root a.image.now.now a.query.now.now a.nodes.now.now a.slot a.index a.depth (omega (arith, c.goals_of.ensures)) c.if-slot-eq-ROOT.true
 
 pub climb-requires : goal.climb-requires
 climb-requires t c =
@@ -34,4 +34,4 @@ returns t c =
     let a = c.args in
     let up = c.parent-above in
     let to = c.frame in
-    number_up a.image.now.now a.query.now.now a.nodes.now.now a.slot a.index a.depth c.climb.result up.result to.result c.goal_index.result c.climb.ensures up.ensures to.ensures c.goal_index.ensures (omega (arith, c.goals_of.ensures)) (omega arith) c.if-slot-eq0.false
+    number_up a.image.now.now a.query.now.now a.nodes.now.now a.slot a.index a.depth c.climb.result up.result to.result c.goal_index.result c.climb.ensures up.ensures to.ensures c.goal_index.ensures (omega (arith, c.goals_of.ensures)) (omega arith) c.if-slot-eq-ROOT.false

@@ -12,10 +12,10 @@ pub verdict_number-requires : goal.verdict_number-requires
 unfolding Near
 verdict_number-requires c = let e : c.if-count-gt131072.count ≡ min (length c.args.bytes.now / 4) 131072 = elim c.if-count-gt131072.branch [ then-count-gt131072 w ↦ omega arith | else-count-gt131072 w ↦ omega arith ] in omega arith
 
-pub returns-then-bytes-ne0 : goal.returns-then-bytes-ne0
-returns-then-bytes-ne0 c =
+pub returns-then-rest-ne0 : goal.returns-then-rest-ne0
+returns-then-rest-ne0 c =
     let e : c.if-count-gt131072.count ≡ min (length c.args.bytes.now / 4) 131072 = elim c.if-count-gt131072.branch [ then-count-gt131072 w ↦ omega arith | else-count-gt131072 w ↦ omega arith ] in
-    check_bytes-broken c.args.bytes.now c.if-count-gt131072.count c.verdict_number.result e c.if-bytes-ne0.true c.verdict_number.ensures
+    check_bytes-broken c.args.bytes.now c.if-count-gt131072.count c.verdict_number.result e c.if-rest-ne0.true c.verdict_number.ensures
 
 pub check_small-requires : goal.check_small-requires
 check_small-requires c = let e : c.if-count-gt131072.count ≡ min (length c.args.bytes.now / 4) 131072 = elim c.if-count-gt131072.branch [ then-count-gt131072 w ↦ omega arith | else-count-gt131072 w ↦ omega arith ] in omega arith
@@ -23,7 +23,7 @@ check_small-requires c = let e : c.if-count-gt131072.count ≡ min (length c.arg
 pub returns-then-count-le1024 : goal.returns-then-count-le1024
 returns-then-count-le1024 c =
     let e : c.if-count-gt131072.count ≡ min (length c.args.bytes.now / 4) 131072 = elim c.if-count-gt131072.branch [ then-count-gt131072 w ↦ omega arith | else-count-gt131072 w ↦ omega arith ] in
-    check_bytes-whole c.args.bytes.now c.if-count-gt131072.count c.check_small.result e c.if-bytes-ne0.false c.check_small.ensures
+    check_bytes-whole c.args.bytes.now c.if-count-gt131072.count c.check_small.result e c.if-rest-ne0.false c.check_small.ensures
 
 pub check_large-requires : goal.check_large-requires
 check_large-requires c = let e : c.if-count-gt131072.count ≡ min (length c.args.bytes.now / 4) 131072 = elim c.if-count-gt131072.branch [ then-count-gt131072 w ↦ omega arith | else-count-gt131072 w ↦ omega arith ] in omega arith
@@ -31,4 +31,4 @@ check_large-requires c = let e : c.if-count-gt131072.count ≡ min (length c.arg
 pub returns : goal.returns
 returns c =
     let e : c.if-count-gt131072.count ≡ min (length c.args.bytes.now / 4) 131072 = elim c.if-count-gt131072.branch [ then-count-gt131072 w ↦ omega arith | else-count-gt131072 w ↦ omega arith ] in
-    check_bytes-whole c.args.bytes.now c.if-count-gt131072.count c.check_large.result e c.if-bytes-ne0.false c.check_large.ensures
+    check_bytes-whole c.args.bytes.now c.if-count-gt131072.count c.check_large.result e c.if-rest-ne0.false c.check_large.ensures

@@ -7,11 +7,11 @@ use Rattle.model.specs.Memory.{value}
 use Rattle.model.specs.declared.Found.TheVariants.{Unbound, Constant}
 use Rattle.terms.proofs.found.Goals as goal
 
-pub returns-then-said-ne0 : goal.returns-then-said-ne0
+pub returns-then-said-ne-UNBOUND : goal.returns-then-said-ne-UNBOUND
 unfolding found_said
-returns-then-said-ne0 c = simp (ne_eqb c.args.said 0 c.if-said-ne0.true) (ap Constant c.value.ensures)
+returns-then-said-ne-UNBOUND c = simp (ne_eqb c.args.said 0 c.if-said-ne-UNBOUND.true) (ap Constant c.value.ensures)
 
 pub returns : goal.returns
 unfolding found_said
 returns c = let a = c.args in
-    simp (eq-eqb a.said 0 c.if-said-ne0.false) (ap (λ (n : ℕ). Unbound (var_no n) a.at) (c.value-number.ensures ∙ ap value c.word_at.ensures))
+    simp (eq-eqb a.said 0 c.if-said-ne-UNBOUND.false) (ap (λ (n : ℕ). Unbound (var_no n) a.at) (c.value-number.ensures ∙ ap value c.word_at.ensures))
