@@ -10,7 +10,6 @@ ghost use Rattle.desk.specs.Rooms.{RoomAfter};
 
 use desk_model::{Line, Opened};
 use std::env::{Env, FillError};
-use std::io::Read;
 use std::rt::Files;
 use std::{fs, io, str};
 
@@ -35,33 +34,13 @@ fn path_room() -> [u8; 4096]
     [0; 4096]
 }
 
-// A file that cannot be read counts as an empty one, or as what was read before.
-fn read_file<R: Read>(file: &mut R, bytes: &mut [u8]) -> usize
-    ensures { result ≤ length bytes.new }
-{
-    let mut done: usize = 0;
-    while done < bytes.len() {
-        match file.read(&mut bytes[done..]) {
-            Ok(count) => {
-                if count == 0 {
-                    return done;
-                }
-                done += count;
-            }
-            Err(_) => {
-                return done;
-            }
-        }
-    }
-    done
-}
-
+// A file that cannot be opened or read counts as an empty one, or as what was read before.
 fn read_named(rt: &impl Files, name: &[u8], bytes: &mut [u8]) -> usize
     ensures { result ≤ length bytes.new }
 {
     match str::from_utf8(name) {
         Ok(path) => match fs::open(rt, path) {
-            Ok(mut file) => read_file(&mut file, bytes),
+            Ok(mut file) => files::read_full(&mut file, bytes),
             Err(_) => 0,
         },
         Err(_) => 0,
@@ -270,7 +249,7 @@ fn main(rt: HostRuntime) -> io::Result<()> {
             }
             read_named(&rt, &path[..length], &mut bytes)
         }
-        Err(FillError::NotPresent) => read_file(&mut rt.reader(), &mut bytes),
+        Err(FillError::NotPresent) => files::read_full(&mut rt.reader(), &mut bytes),
         Err(FillError::TooLong) => 0,
     };
     search(&rt, &bytes[..n])

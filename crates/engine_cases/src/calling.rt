@@ -1,8 +1,9 @@
 // A stored call is made on the memory, and its answer and all words afterwards are held against what is stored.
 use crate::answers::{load_agrees, memory_digest, move_agrees, run_agrees, step_agrees};
 use crate::room::read_call_agrees;
-use crate::stored::{Call, Stored, next_word, part, read_call};
+use crate::stored::{Call, next_word, part, read_call};
 use crate::tally::count_answer;
+use std::fs::File;
 
 // A load, a step or a run.
 fn change_agrees<'a>(
@@ -55,7 +56,7 @@ fn move_call_agrees<'a>(
 }
 
 fn answer_agrees<'a>(
-    stored: &mut Stored,
+    file: &mut File,
     call: Call,
     image: &'a [u32],
     query: &'a [u32],
@@ -69,7 +70,7 @@ fn answer_agrees<'a>(
     match kind {
         4 => move_call_agrees(call, image, query, nodes, cells, trail, arrays, workers),
         5 => read_call_agrees(
-            stored, call, image, query, nodes, cells, trail, arrays, workers,
+            file, call, image, query, nodes, cells, trail, arrays, workers,
         ),
         _ => change_agrees(call, image, query, nodes, cells, trail, arrays, workers),
     }
@@ -77,7 +78,7 @@ fn answer_agrees<'a>(
 
 // All slices are lent with the lengths that the call asks for; image and query have a spare word too.
 fn lent_agrees<'a>(
-    stored: &mut Stored,
+    file: &mut File,
     call: Call,
     image: &'a [u32],
     query: &'a [u32],
@@ -95,7 +96,7 @@ fn lent_agrees<'a>(
     let image_words = part(image.len(), 6, call);
     let query_words = part(query.len(), 7, call);
     answer_agrees(
-        stored,
+        file,
         call,
         &image[..image_words],
         &query[..query_words],
@@ -109,7 +110,7 @@ fn lent_agrees<'a>(
 
 // The answer and the digest of all words agree with what is stored.
 pub fn call_agrees<'a>(
-    stored: &mut Stored,
+    file: &mut File,
     image: &'a [u32],
     query: &'a [u32],
     nodes: &mut [u32],
@@ -119,11 +120,11 @@ pub fn call_agrees<'a>(
     workers: &mut [u32],
     tally: &mut [u32],
 ) -> bool {
-    let call = read_call(stored);
-    let high = next_word(stored) as u64;
-    let low = next_word(stored) as u64;
+    let call = read_call(file);
+    let high = next_word(file) as u64;
+    let low = next_word(file) as u64;
     let good = lent_agrees(
-        stored, call, image, query, nodes, cells, trail, arrays, workers,
+        file, call, image, query, nodes, cells, trail, arrays, workers,
     );
     count_answer(tally, call);
     if memory_digest(nodes, cells, trail, arrays, workers) != high * 4294967296 + low {

@@ -1,6 +1,7 @@
 // A memory, an image or a query changed in one word: judged as it stands, used by a call, and put right again.
 use crate::calling::call_agrees;
-use crate::stored::{Change, Stored, next_word, read_change};
+use crate::stored::{Change, next_word, read_change};
+use std::fs::File;
 
 fn put(words: &mut [u32], index: u32, value: u32) {
     let at = index as usize;
@@ -73,7 +74,7 @@ fn verdict_agrees<'a>(
 }
 
 fn judged_agrees<'a>(
-    stored: &mut Stored,
+    file: &mut File,
     image: &'a [u32],
     query: &'a [u32],
     nodes: &mut [u32],
@@ -83,10 +84,10 @@ fn judged_agrees<'a>(
     workers: &mut [u32],
     tally: &mut [u32],
 ) -> bool {
-    let verdict = next_word(stored);
+    let verdict = next_word(file);
     let judged = verdict_agrees(verdict, image, query, nodes, cells, trail, arrays, workers);
     let good = call_agrees(
-        stored, image, query, nodes, cells, trail, arrays, workers, tally,
+        file, image, query, nodes, cells, trail, arrays, workers, tally,
     );
     if !judged {
         return false;
@@ -95,8 +96,8 @@ fn judged_agrees<'a>(
 }
 
 // The same place gets the word that is stored next.
-fn next_change(stored: &mut Stored, change: Change) -> Change {
-    let value = next_word(stored);
+fn next_change(file: &mut File, change: Change) -> Change {
+    let value = next_word(file);
     Change {
         slice: change.slice,
         index: change.index,
@@ -106,7 +107,7 @@ fn next_change(stored: &mut Stored, change: Change) -> Change {
 
 // The call is over, and the place gets the word that it has from here on.
 fn restored_agrees(
-    stored: &mut Stored,
+    file: &mut File,
     change: Change,
     image: &mut [u32],
     query: &mut [u32],
@@ -118,16 +119,16 @@ fn restored_agrees(
     tally: &mut [u32; 128],
 ) -> bool {
     let good = judged_agrees(
-        stored, image, query, nodes, cells, trail, arrays, workers, tally,
+        file, image, query, nodes, cells, trail, arrays, workers, tally,
     );
-    let after = next_change(stored, change);
+    let after = next_change(file, change);
     put_word(after, image, query, nodes, cells, trail, arrays, workers);
     good
 }
 
 // The place and the word put there; the verdict and the call; the word that the place gets afterwards.
 pub fn changed_agrees(
-    stored: &mut Stored,
+    file: &mut File,
     slice: u32,
     image: &mut [u32],
     query: &mut [u32],
@@ -138,9 +139,9 @@ pub fn changed_agrees(
     workers: &mut [u32; 5],
     tally: &mut [u32; 128],
 ) -> bool {
-    let change = read_change(stored, slice);
+    let change = read_change(file, slice);
     put_word(change, image, query, nodes, cells, trail, arrays, workers);
     restored_agrees(
-        stored, change, image, query, nodes, cells, trail, arrays, workers, tally,
+        file, change, image, query, nodes, cells, trail, arrays, workers, tally,
     )
 }

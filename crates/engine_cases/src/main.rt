@@ -10,14 +10,15 @@ mod schedule;
 mod stored;
 mod tally;
 
+use std::fs::File;
 use std::{fs, io};
-use stored::{Stored, next_word};
+use stored::next_word;
 use tally::{say_agreed, say_outcomes, say_refusals};
 
 // Every slice has a spare word at its end, for the calls that lend one more than they should.
 fn schedules(
     rt: &impl Print,
-    stored: &mut Stored,
+    file: &mut File,
     count: u32,
     tally: &mut [u32; 128],
 ) -> io::Result<()> {
@@ -32,7 +33,7 @@ fn schedules(
     while i < count {
         schedule::schedule(
             rt,
-            stored,
+            file,
             i,
             &mut image,
             &mut query,
@@ -57,9 +58,9 @@ fn say_all(rt: &impl Print, tally: &[u32; 128]) -> io::Result<()> {
 }
 
 fn main(rt: HostRuntime) -> io::Result<()> {
-    let mut stored = Stored::new(fs::read(&rt, "cases")?);
-    let count = next_word(&mut stored);
+    let mut file = fs::open(&rt, "cases")?;
+    let count = next_word(&mut file);
     let mut tally = [0u32; 128];
-    schedules(&rt, &mut stored, count, &mut tally)?;
+    schedules(&rt, &mut file, count, &mut tally)?;
     say_all(&rt, &tally)
 }

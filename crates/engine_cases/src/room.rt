@@ -1,6 +1,7 @@
 // The room that an answer is read into: marked before the call, held against the stored words after it.
 use crate::answers::read_agrees;
-use crate::stored::{Call, Stored, next_word};
+use crate::stored::{Call, next_word};
+use std::fs::File;
 
 fn mark(i: usize) -> u32 {
     3221225472 + (i % 65536) as u32
@@ -15,19 +16,19 @@ fn fill(room: &mut [u32]) {
 }
 
 // So many words come from the file, and past them stands what stood there before.
-fn expected(stored: &mut Stored, count: u32, i: usize) -> u32 {
+fn expected(file: &mut File, count: u32, i: usize) -> u32 {
     if i < count as usize {
-        return next_word(stored);
+        return next_word(file);
     }
     mark(i)
 }
 
 // Every stored word is read, also after one that differs.
-fn holds(stored: &mut Stored, room: &[u32], count: u32) -> bool {
+fn holds(file: &mut File, room: &[u32], count: u32) -> bool {
     let mut same = true;
     let mut i: usize = 0;
     while i < room.len() {
-        if room[i] != expected(stored, count, i) {
+        if room[i] != expected(file, count, i) {
             same = false;
         }
         i += 1;
@@ -45,7 +46,7 @@ fn written(call: Call) -> u32 {
 
 // The room may be longer than what is lent of it, to show that the words past that stay.
 fn read_into<'a>(
-    stored: &mut Stored,
+    file: &mut File,
     call: Call,
     image: &'a [u32],
     query: &'a [u32],
@@ -72,14 +73,14 @@ fn read_into<'a>(
         call.worker,
         &mut room[..size],
     );
-    if !holds(stored, room, written(call)) {
+    if !holds(file, room, written(call)) {
         return false;
     }
     read_agrees(answer, call)
 }
 
 pub fn read_call_agrees<'a>(
-    stored: &mut Stored,
+    file: &mut File,
     call: Call,
     image: &'a [u32],
     query: &'a [u32],
@@ -91,6 +92,6 @@ pub fn read_call_agrees<'a>(
 ) -> bool {
     let mut room = [0u32; 64];
     read_into(
-        stored, call, image, query, nodes, cells, trail, arrays, workers, &mut room,
+        file, call, image, query, nodes, cells, trail, arrays, workers, &mut room,
     )
 }

@@ -3,13 +3,14 @@ ghost use Rattle.std.specs.Prelude.{◌<◌};
 
 use crate::calling::call_agrees;
 use crate::damage::changed_agrees;
-use crate::stored::{Stored, next_word, read_list};
+use crate::stored::{next_word, read_list};
 use crate::tally::count;
+use std::fs::File;
 use std::io;
 
 // A call on the memory as it is, or with one word changed.
 fn turn_agrees(
-    stored: &mut Stored,
+    file: &mut File,
     slice: u32,
     image: &mut [u32],
     query: &mut [u32],
@@ -22,11 +23,11 @@ fn turn_agrees(
 ) -> bool {
     if slice == 0 {
         return call_agrees(
-            stored, image, query, nodes, cells, trail, arrays, workers, tally,
+            file, image, query, nodes, cells, trail, arrays, workers, tally,
         );
     }
     changed_agrees(
-        stored, slice, image, query, nodes, cells, trail, arrays, workers, tally,
+        file, slice, image, query, nodes, cells, trail, arrays, workers, tally,
     )
 }
 
@@ -57,7 +58,7 @@ fn say_differs(rt: &impl Print, schedule: u32, left: u32) -> io::Result<()> {
 
 fn turn(
     rt: &impl Print,
-    stored: &mut Stored,
+    file: &mut File,
     schedule: u32,
     left: u32,
     image: &mut [u32],
@@ -69,9 +70,9 @@ fn turn(
     workers: &mut [u32; 5],
     tally: &mut [u32; 128],
 ) -> io::Result<bool> {
-    let slice = next_word(stored);
+    let slice = next_word(file);
     let good = turn_agrees(
-        stored, slice, image, query, nodes, cells, trail, arrays, workers, tally,
+        file, slice, image, query, nodes, cells, trail, arrays, workers, tally,
     );
     count_turn(tally, slice, good);
     if !good {
@@ -82,7 +83,7 @@ fn turn(
 
 fn turns(
     rt: &impl Print,
-    stored: &mut Stored,
+    file: &mut File,
     schedule: u32,
     image: &mut [u32],
     query: &mut [u32],
@@ -94,10 +95,10 @@ fn turns(
     tally: &mut [u32; 128],
 ) -> io::Result<bool> {
     let mut all = true;
-    let mut left = next_word(stored);
+    let mut left = next_word(file);
     while 0 < left {
         if !turn(
-            rt, stored, schedule, left, image, query, nodes, cells, trail, arrays, workers, tally,
+            rt, file, schedule, left, image, query, nodes, cells, trail, arrays, workers, tally,
         )? {
             all = false;
         }
@@ -109,7 +110,7 @@ fn turns(
 // The memory is what the schedule before has left.
 pub fn schedule(
     rt: &impl Print,
-    stored: &mut Stored,
+    file: &mut File,
     number: u32,
     image: &mut [u32],
     query: &mut [u32],
@@ -120,11 +121,11 @@ pub fn schedule(
     workers: &mut [u32; 5],
     tally: &mut [u32; 128],
 ) -> io::Result<()> {
-    let image_words = read_list(stored, image);
-    let query_words = read_list(stored, query);
+    let image_words = read_list(file, image);
+    let query_words = read_list(file, query);
     let good = turns(
         rt,
-        stored,
+        file,
         number,
         &mut image[..image_words],
         &mut query[..query_words],

@@ -1,6 +1,8 @@
 // What is stored: words, most significant byte first, 0 past the end of the file; lists of them; calls with what they must answer; changes of one word.
 ghost use Rattle.std.specs.Prelude.{◌≤◌, length};
 
+use std::fs::File;
+
 // Kind 1 load, 2 step, 3 run, 4 move, 5 read. `given` is a run's budget, a move's slot, a read's room.
 // The slice of this number, 1 nodes to 5 workers, then image and query, is lent with another length: 1 one word shorter, 2 one longer.
 // Number 0 stands for a call that is not refused; then come outcome, slot and count, or what the call has of them. After a refusal's number comes its position.
@@ -24,71 +26,47 @@ pub struct Change {
     pub value: u32,
 }
 
-// The file, and how many of its bytes have been read.
-#[derive(Drop)]
-pub struct Stored {
-    bytes: Vec<u8>,
-    at: usize,
-}
-
-impl Stored {
-    pub fn new(bytes: Vec<u8>) -> Stored {
-        Stored { bytes, at: 0 }
-    }
-}
-
 fn word(a: u8, b: u8, c: u8, d: u8) -> u32 {
     ((a as u32 * 256 + b as u32) * 256 + c as u32) * 256 + d as u32
 }
 
-fn next_byte(stored: &mut Stored) -> u8 {
-    if stored.bytes.len() <= stored.at {
-        return 0;
-    }
-    let byte = stored.bytes[stored.at];
-    stored.at += 1;
-    byte
-}
-
 // A file that ends within a word reads on as zeros.
-pub fn next_word(stored: &mut Stored) -> u32 {
-    let a = next_byte(stored);
-    let b = next_byte(stored);
-    let c = next_byte(stored);
-    let d = next_byte(stored);
-    word(a, b, c, d)
+pub fn next_word(file: &mut File) -> u32 {
+    let mut four = [0u8; 4];
+    files::read_full(file, &mut four);
+    word(four[0], four[1], four[2], four[3])
 }
 
-pub fn read_words(stored: &mut Stored, words: &mut [u32]) {
+pub fn read_words(file: &mut File, words: &mut [u32]) {
     let mut i: usize = 0;
     while i < words.len() {
-        words[i] = next_word(stored);
+        words[i] = next_word(file);
         i += 1;
     }
 }
 
 // A stored list: its length, then its words. Answers the length, or 0 where the list does not find room.
-pub fn read_list(stored: &mut Stored, words: &mut [u32]) -> usize
+pub fn read_list(file: &mut File, words: &mut [u32]) -> usize
     ensures { result ≤ length words.new }
 {
-    let size = next_word(stored) as usize;
+    let size = next_word(file) as usize;
     if words.len() < size {
         return 0;
     }
-    read_words(stored, &mut words[..size]);
+    read_words(file, &mut words[..size]);
     size
 }
 
-pub fn read_call(stored: &mut Stored) -> Call {
-    let kind = next_word(stored);
-    let worker = next_word(stored);
-    let given = next_word(stored);
-    let slice = next_word(stored);
-    let length = next_word(stored);
-    let number = next_word(stored);
-    let first = next_word(stored);
-    let second = next_word(stored);
-    let third = next_word(stored);
+pub fn read_call(file: &mut File) -> Call {
+    let kind = next_word(file);
+    let worker = next_word(file);
+    let given = next_word(file);
+    let slice = next_word(file);
+    let length = next_word(file);
+    let number = next_word(file);
+    let first = next_word(file);
+    let second = next_word(file);
+    let third = next_word(file);
     Call {
         kind,
         worker,
@@ -102,9 +80,9 @@ pub fn read_call(stored: &mut Stored) -> Call {
     }
 }
 
-pub fn read_change(stored: &mut Stored, slice: u32) -> Change {
-    let index = next_word(stored);
-    let value = next_word(stored);
+pub fn read_change(file: &mut File, slice: u32) -> Change {
+    let index = next_word(file);
+    let value = next_word(file);
     Change {
         slice,
         index,

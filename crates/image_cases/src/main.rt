@@ -4,12 +4,9 @@
 // Kind 0 is an image, 1 an image and a query, 2 to 5 the image's bytes less 0 to 3 of them, 6 a long image made here from one word.
 #![tactic(auto)]
 
-ghost use Rattle.std.specs.Prelude.{◌≡◌, ◌+◌, ◌*◌, ◌≤◌, ◌<◌, length, IfOk};
+ghost use Rattle.std.specs.Prelude.{◌≡◌, ◌+◌, ◌*◌, ◌≤◌, ◌<◌, length};
 
 use model::Verdict;
-use std::fs::OpenFile;
-use std::io::Read;
-use std::rt::Files;
 use std::{fs, io};
 
 #[derive(Clone, Copy)]
@@ -188,21 +185,6 @@ fn run_cases(rt: &impl Print, bytes: &[u8], words: &[u32]) -> io::Result<()> {
     Ok(())
 }
 
-// As much of the stored cases as there is room for; the count of bytes.
-fn read_cases<R: Read>(file: &mut R, bytes: &mut [u8]) -> io::Result<usize>
-    ensures { IfOk result (λ n. n ≤ length bytes.new) }
-{
-    let mut done: usize = 0;
-    while done < bytes.len() {
-        let count = file.read(&mut bytes[done..])?;
-        if count == 0 {
-            return Ok(done);
-        }
-        done += count;
-    }
-    Ok(done)
-}
-
 fn file_room() -> [u8; 262144]
     ensures { 262144 ≡ length result }
 {
@@ -218,7 +200,7 @@ fn word_room() -> [u32; 65536]
 fn main(rt: HostRuntime) -> io::Result<()> {
     let mut file = fs::open(&rt, "cases")?;
     let mut bytes = file_room();
-    let n = read_cases(&mut file, &mut bytes)?;
+    let n = files::read_full(&mut file, &mut bytes);
     let mut words = word_room();
     let count = read_words(&bytes[..n], &mut words);
     run_cases(&rt, &bytes[..n], &words[..count])

@@ -2,12 +2,11 @@
 // The first argument names a file of words, most significant byte first: query length, query, image. The second says how many searches. Without arguments: the file `words`, once; it is workload w4 of `bench/workloads.py`, whose 10,000 answers are passed over.
 #![tactic(auto)]
 
-ghost use Rattle.std.specs.Prelude.{◌≡◌, ◌+◌, ◌≤◌, ◌<◌, length, IfOk};
+ghost use Rattle.std.specs.Prelude.{◌≡◌, ◌+◌, ◌≤◌, ◌<◌, length};
 ghost use Rattle.turns.specs.Hand.{AtHand};
 
 use model::{Outcome, Verdict};
 use std::env::{Env, FillError};
-use std::io::Read;
 use std::rt::Files;
 use std::{fs, io, str};
 
@@ -235,25 +234,10 @@ fn times(rt: &impl Env) -> u32 {
     }
 }
 
-// Reads until the bytes are full or the file ends, and answers how many it put there: of a longer file the rest stays unread.
-fn read_full<F: Read>(file: &mut F, bytes: &mut [u8]) -> io::Result<usize>
-    ensures { IfOk result (λ size. size ≤ length bytes.new) }
-{
-    let mut done: usize = 0;
-    while done < bytes.len() {
-        let size = file.read(&mut bytes[done..])?;
-        if size == 0 {
-            return Ok(done);
-        }
-        done += size;
-    }
-    Ok(done)
-}
-
 fn main(rt: HostRuntime) -> io::Result<()> {
     let mut file = open(&rt)?;
     let mut bytes = [0u8; 65536];
-    let size = read_full(&mut file, &mut bytes)?;
+    let size = files::read_full(&mut file, &mut bytes);
     let mut words = [0u32; 16384];
     lay_out(&bytes[..size], &mut words);
     parted(&rt, &words[..size / 4], times(&rt))

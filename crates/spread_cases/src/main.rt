@@ -5,6 +5,7 @@
 ghost use Rattle.std.specs.Prelude.{◌≡◌, ◌≤◌, length, IfOk};
 
 use model::Written;
+use std::fs::File;
 use std::{fs, io};
 
 // Room for the spread form of an image of 131,071 words whose clauses are facts of arity 15.
@@ -18,35 +19,17 @@ fn word(a: u8, b: u8, c: u8, d: u8) -> u32 {
     ((a as u32 * 256 + b as u32) * 256 + c as u32) * 256 + d as u32
 }
 
-// The file, and how many of its bytes have been read.
-#[derive(Drop)]
-struct Stored {
-    bytes: Vec<u8>,
-    at: usize,
-}
-
-fn next_byte(stored: &mut Stored) -> u8 {
-    if stored.bytes.len() <= stored.at {
-        return 0;
-    }
-    let byte = stored.bytes[stored.at];
-    stored.at += 1;
-    byte
-}
-
 // Words stand most significant byte first; past the end of the file they are 0, and a file that ends within a word reads on as zeros.
-fn next_word(stored: &mut Stored) -> u32 {
-    let a = next_byte(stored);
-    let b = next_byte(stored);
-    let c = next_byte(stored);
-    let d = next_byte(stored);
-    word(a, b, c, d)
+fn next_word(file: &mut File) -> u32 {
+    let mut four = [0u8; 4];
+    files::read_full(file, &mut four);
+    word(four[0], four[1], four[2], four[3])
 }
 
-fn read_words(stored: &mut Stored, words: &mut [u32]) {
+fn read_words(file: &mut File, words: &mut [u32]) {
     let mut i: usize = 0;
     while i < words.len() {
-        words[i] = next_word(stored);
+        words[i] = next_word(file);
         i += 1;
     }
 }
@@ -65,20 +48,20 @@ fn repeat(words: &mut [u32], from: usize, step: usize) {
 }
 
 // A stored list: the words that stand in the file, how many of the last are repeated, the length in all. Answers the length.
-fn read_list(stored: &mut Stored, list: &mut [u32]) -> usize
+fn read_list(file: &mut File, list: &mut [u32]) -> usize
     ensures { result ≤ length list.new }
 {
-    let standing = next_word(stored) as usize;
-    let step = next_word(stored) as usize;
-    let size = next_word(stored) as usize;
-    if size < standing {
+    let stored = next_word(file) as usize;
+    let step = next_word(file) as usize;
+    let size = next_word(file) as usize;
+    if size < stored {
         return 0;
     }
     if list.len() < size {
         return 0;
     }
-    read_words(stored, &mut list[..standing]);
-    repeat(&mut list[..size], standing, step);
+    read_words(file, &mut list[..stored]);
+    repeat(&mut list[..size], stored, step);
     size
 }
 
@@ -143,13 +126,13 @@ fn call(which: u32, input: &[u32], room: &mut [u32]) -> Written {
 }
 
 // A stored case: which call, the room's size, number and value of the answer, the input, the words written.
-fn agrees(stored: &mut Stored, input: &mut [u32], room: &mut [u32], words: &mut [u32]) -> bool {
-    let which = next_word(stored);
-    let size = next_word(stored) as usize;
-    let number = next_word(stored);
-    let value = next_word(stored) as usize;
-    let given = read_list(stored, input);
-    let count = read_list(stored, words);
+fn agrees(file: &mut File, input: &mut [u32], room: &mut [u32], words: &mut [u32]) -> bool {
+    let which = next_word(file);
+    let size = next_word(file) as usize;
+    let number = next_word(file);
+    let value = next_word(file) as usize;
+    let given = read_list(file, input);
+    let count = read_list(file, words);
     if room.len() < size {
         return false;
     }
@@ -168,7 +151,7 @@ fn say(rt: &impl Print, word: &str, n: u64) -> io::Result<()> {
 // 1 for a case that agrees.
 fn tell(
     rt: &impl Print,
-    stored: &mut Stored,
+    file: &mut File,
     i: u32,
     input: &mut [u32],
     room: &mut [u32],
@@ -176,7 +159,7 @@ fn tell(
 ) -> io::Result<u32>
     ensures { IfOk result (λ good. good ≤ 1) }
 {
-    if agrees(stored, input, room, words) {
+    if agrees(file, input, room, words) {
         return Ok(1);
     }
     say(rt, "case fails: ", i as u64)?;
@@ -186,7 +169,7 @@ fn tell(
 // Answers how many agree.
 fn run(
     rt: &impl Print,
-    stored: &mut Stored,
+    file: &mut File,
     cases: u32,
     input: &mut [u32],
     room: &mut [u32],
@@ -195,19 +178,18 @@ fn run(
     let mut good: u32 = 0;
     let mut i: u32 = 0;
     while i < cases {
-        good += tell(rt, stored, i, input, room, words)?;
+        good += tell(rt, file, i, input, room, words)?;
         i += 1;
     }
     Ok(good)
 }
 
 fn main(rt: HostRuntime) -> io::Result<()> {
-    let bytes = fs::read(&rt, "cases")?;
-    let mut stored = Stored { bytes, at: 0 };
-    let cases = next_word(&mut stored);
+    let mut file = fs::open(&rt, "cases")?;
+    let cases = next_word(&mut file);
     let mut input = space();
     let mut room = space();
     let mut words = space();
-    let good = run(&rt, &mut stored, cases, &mut input, &mut room, &mut words)?;
+    let good = run(&rt, &mut file, cases, &mut input, &mut room, &mut words)?;
     println!(rt; "{good} of {cases} cases agree")
 }
