@@ -12,8 +12,7 @@ fn recall(memo: &[u32], slot: u32, key: u32) -> u32
     ensures { result ≡ recalled memo.now slot key }
 {
     let at = 2 * slot as usize;
-    let wanted = key;
-    if words::word_at(memo, at) != wanted {
+    if words::word_at(memo, at) != key {
         return 0;
     }
     words::word_at(memo, at + 1)

@@ -21,9 +21,9 @@ word_at-requires c = search rules
 
 -- src/lib.rt:16:9
 
-pub returns-then-word_at-wanted : goal.returns-then-word_at-wanted
+pub returns-then-word_at-key : goal.returns-then-word_at-key
 unfolding recalled
-returns-then-word_at-wanted c = let a = c.args in simp (ne_eqb (key_at a.memo.now a.slot) a.key (λ e. c.if-word_at-wanted.true (c.word_at.ensures ∙ e)))
+returns-then-word_at-key c = let a = c.args in simp (ne_eqb (key_at a.memo.now a.slot) a.key (λ e. c.if-word_at-key.true (c.word_at.ensures ∙ e)))
 
 -- src/lib.rt:18:26
 
@@ -39,4 +39,4 @@ word_at-requires-2 c = search rules
 
 pub returns : goal.returns
 unfolding recalled
-returns c = let a = c.args in simp (eq-eqb (key_at a.memo.now a.slot) a.key (sym c.word_at.ensures ∙ c.if-word_at-wanted.false)) c.word_at-2.ensures
+returns c = let a = c.args in simp (eq-eqb (key_at a.memo.now a.slot) a.key (sym c.word_at.ensures ∙ c.if-word_at-key.false)) c.word_at-2.ensures
