@@ -2,7 +2,6 @@
 use mathlib.Core.Path.{sym, ◌∙◌}
 use Rattle.desk_file.proofs.FileLaws.{parts_within, lay-no-room, lay-unfit, lay-fit}
 use native.Mathlib.Omega.{arith}
-use borrow.Author.Rules.{rules}
 use Rattle.desk_file.proofs.lay_file.Goals as goal
 
 pub returns-then-words-lt1297 : goal.returns-then-words-lt1297

@@ -1,7 +1,6 @@
 -- `desk_file::lay_words` meets its contract. Assumes nothing.
 use mathlib.Core.Path.{◌≡◌, refl}
-use Prim.Native.Nat.{◌-◌, ◌≤◌}
-use lib.ListN.{length, take, drop, length-set}
+use lib.ListN.{length-set}
 use Rattle.model.specs.Bytes.{words_from}
 use Rattle.host.proofs.BytesLaws.{words_from-store}
 use Rattle.desk_file.proofs.FileLaws.{drop-store, laid-words}

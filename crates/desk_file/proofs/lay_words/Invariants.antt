@@ -1,11 +1,8 @@
 -- `desk_file::lay_words` meets its contract. Assumes nothing.
-use mathlib.Core.Path.{◌≡◌, refl}
+use mathlib.Core.Path.{◌≡◌}
 use Prim.Native.Nat.{◌-◌, ◌≤◌}
-use lib.ListN.{length, take, drop, length-set}
+use lib.ListN.{length, take, drop}
 use Rattle.model.specs.Bytes.{words_from}
-use Rattle.host.proofs.BytesLaws.{words_from-store}
-use Rattle.desk_file.proofs.FileLaws.{drop-store, laid-words}
-use native.Mathlib.Omega.{arith}
 use Rattle.desk_file.proofs.lay_words.Given as goal
 
 abbrev pub invariant-loop-k : goal.invariant-loop-k

@@ -1,5 +1,4 @@
 -- `desk_file::word_of_bytes` meets its contract. Assumes nothing.
-use borrow.Author.Rules.{rules}
 use Rattle.model.specs.Bytes.{word_of_bytes}
 use Rattle.desk_file.proofs.word_of_bytes.Goals as goal
 

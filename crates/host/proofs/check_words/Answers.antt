@@ -1,8 +1,7 @@
 -- `host::check_words` meets its contract. The loop's invariant: what is left to do gives the whole. Assumes nothing.
 use mathlib.Core.Path.{◌≡◌, refl, ap, ◌∙◌}
-use Prim.Native.Nat.{◌-◌, ◌≤◌}
 use native.Mathlib.Omega.{arith}
-use lib.ListN.{length, take, length-take, length-set}
+use lib.ListN.{take, length-take, length-set}
 use Rattle.model.specs.Bytes.{words_from}
 use Rattle.model.specs.Image.{check_image}
 use Rattle.model.specs.Numbers.{verdict_number}

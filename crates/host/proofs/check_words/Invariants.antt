@@ -1,12 +1,8 @@
 -- `host::check_words` meets its contract. The loop's invariant: what is left to do gives the whole. Assumes nothing.
-use mathlib.Core.Path.{◌≡◌, refl, ap, ◌∙◌}
+use mathlib.Core.Path.{◌≡◌}
 use Prim.Native.Nat.{◌-◌, ◌≤◌}
-use native.Mathlib.Omega.{arith}
-use lib.ListN.{length, take, length-take, length-set}
+use lib.ListN.{length, take}
 use Rattle.model.specs.Bytes.{words_from}
-use Rattle.model.specs.Image.{check_image}
-use Rattle.model.specs.Numbers.{verdict_number}
-use Rattle.host.proofs.BytesLaws.{words_from-store, check_image-near}
 use Rattle.host.proofs.check_words.Given as goal
 
 abbrev pub invariant-loop-k : goal.invariant-loop-k

@@ -1,6 +1,5 @@
 -- `host::cumbwael_check_query` meets its contract. Assumes nothing.
 use mathlib.Core.Path.{ap, ◌∙◌}
-use borrow.Author.Rules.{rules}
 use Rattle.host.specs.Answers.{answer_of_check}
 use Rattle.host.proofs.cumbwael_check_query.Goals as goal
 

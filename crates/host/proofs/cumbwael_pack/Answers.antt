@@ -1,5 +1,4 @@
 -- `host::cumbwael_pack` meets its contract. Assumes nothing.
-use borrow.Author.Rules.{rules}
 use Rattle.host.proofs.AnswerLaws.{writing-said}
 use Rattle.host.proofs.cumbwael_pack.Goals as goal
 

@@ -1,5 +1,4 @@
 -- `host::cumbwael_unpack` meets its contract. Assumes nothing.
-use borrow.Author.Rules.{rules}
 use Rattle.host.proofs.AnswerLaws.{writing-said}
 use Rattle.host.proofs.cumbwael_unpack.Goals as goal
 

@@ -2,7 +2,6 @@
 use mathlib.Core.Path.{sym, ap, subst, ◌∙◌}
 use Prim.Native.Nat.{ℕ, ◌+◌, ◌*◌}
 use native.Mathlib.Omega.{arith}
-use borrow.Author.Rules.{rules}
 use Rattle.model.specs.Numbers.{verdict_number}
 use Rattle.host.specs.Near.{Near}
 use Rattle.host.proofs.verdict_number.Goals as goal

@@ -1,5 +1,4 @@
 -- `host::word_of_bytes` meets its contract. Assumes nothing.
-use borrow.Author.Rules.{rules}
 use Rattle.model.specs.Bytes.{word_of_bytes}
 use Rattle.host.proofs.word_of_bytes.Goals as goal
 

@@ -1,7 +1,6 @@
 -- `image_cases::put` meets its contract. Assumes nothing.
 use native.Mathlib.Omega.{arith}
 use lib.ListN.{length-set}
-use borrow.Author.Rules.{rules}
 use Rattle.image_cases.proofs.put.Goals as goal
 
 pub bounds-bytes-at-2 : goal.bounds-bytes-at-2

@@ -1,7 +1,6 @@
 -- `image_cases::put_clauses` meets its contract. The loop's invariant: what is left to do gives the whole. Assumes nothing.
 use mathlib.Core.Path.{◌≡◌}
 use Prim.Native.Nat.{◌-◌}
-use native.Mathlib.Omega.{arith}
 use lib.ListN.{length}
 use Rattle.image_cases.proofs.put_clauses.Given as goal
 

@@ -1,8 +1,6 @@
 -- `image_cases::read_words` meets its contract. The loop's invariant: what is left to do gives the whole. Assumes nothing.
-use mathlib.Core.Path.{◌≡◌}
-use Prim.Native.Nat.{◌-◌, ◌≤◌}
 use native.Mathlib.Omega.{arith}
-use lib.ListN.{length, length-set}
+use lib.ListN.{length-set}
 use Rattle.image_cases.proofs.read_words.Goals as goal
 
 pub loop-k-init : goal.loop-k-init

@@ -2,7 +2,6 @@
 use lib.ListN.{length-take}
 use Rattle.listing.proofs.StopLaws.{steps-fit, advanced-from}
 use native.Mathlib.Omega.{arith}
-use borrow.Author.Rules.{rules}
 use Rattle.listing.proofs.advance.Goals as goal
 
 pub slice_bounds-run-end-2 : goal.slice_bounds-run-end-2

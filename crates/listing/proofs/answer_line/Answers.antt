@@ -8,7 +8,6 @@ use Rattle.model.specs.Memory.{memory}
 use Rattle.memory.proofs.FieldBounds.{variables-lt}
 use Rattle.listing.proofs.StopLaws.{read-few, answer-told}
 use native.Mathlib.Omega.{arith}
-use borrow.Author.Rules.{rules}
 use Rattle.listing.proofs.answer_line.Goals as goal
 
 pub read_answer-count-requires : goal.read_answer-count-requires

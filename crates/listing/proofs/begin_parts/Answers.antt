@@ -2,7 +2,6 @@
 use Rattle.model.specs.Memory.{memory}
 use Rattle.listing.specs.Fits.{Fits}
 use Rattle.listing.proofs.OpenLaws.{begun-refused, begun-ready}
-use borrow.Author.Rules.{rules}
 use Rattle.listing.proofs.begin_parts.Goals as goal
 
 pub returns-in-Refused : goal.returns-in-Refused

@@ -2,7 +2,6 @@
 use mathlib.Core.Path.{sym, ap}
 use Rattle.desk_model.specs.declared.Stop.{Stop}
 use Rattle.desk_model.specs.Desk.{line_answer}
-use borrow.Author.Rules.{rules}
 use Rattle.listing.proofs.line_answer.Goals as goal
 
 pub returns-in-Answer : goal.returns-in-Answer

@@ -2,7 +2,6 @@
 use Rattle.model.specs.Memory.{memory}
 use Rattle.listing.proofs.TellLaws.{next-no-arrays, next-no-room, next-told}
 use native.Mathlib.Omega.{arith}
-use borrow.Author.Rules.{rules}
 use Rattle.listing.proofs.next_line.Goals as goal
 
 pub returns-then-arrays-ne8192 : goal.returns-then-arrays-ne8192

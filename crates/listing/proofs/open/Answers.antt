@@ -6,7 +6,6 @@ use Rattle.desk_model.specs.Desk.{laid}
 use Rattle.listing.specs.Fits.{Fits}
 use Rattle.listing.proofs.OpenLaws.{open-no-words, open-no-line, open-unfit, open-fit, laid-within}
 use native.Mathlib.Omega.{arith}
-use borrow.Author.Rules.{rules}
 use Rattle.listing.proofs.open.Goals as goal
 
 pub returns-then-words-lt1297 : goal.returns-then-words-lt1297

@@ -1,7 +1,6 @@
 -- `listing::stop_line` meets its contract. Assumes nothing.
 use Rattle.model.specs.Memory.{memory}
 use Rattle.listing.proofs.StopLaws.{stop-answer, stop-ended}
-use borrow.Author.Rules.{rules}
 use Rattle.listing.proofs.stop_line.Goals as goal
 
 pub returns-in-Answer : goal.returns-in-Answer

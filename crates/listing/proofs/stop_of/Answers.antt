@@ -1,7 +1,6 @@
 -- `listing::stop_of` meets its contract. Assumes nothing.
 use mathlib.Core.Path.{sym, ap}
 use Rattle.desk_model.specs.Desk.{stop_of}
-use borrow.Author.Rules.{rules}
 use Rattle.listing.proofs.stop_of.Goals as goal
 
 pub returns-in-Tried : goal.returns-in-Tried

@@ -1,9 +1,5 @@
 -- `desk::help::is_asked` meets its contract. Assumes nothing.
-use mathlib.Core.Path.{◌≡◌}
-use Prim.Native.Nat.{◌-◌, ◌≤◌}
-use lib.ListN.{length}
 use native.Mathlib.Omega.{arith}
-use borrow.Author.Rules.{rules}
 use Rattle.desk.proofs.help.is_asked.Goals as goal
 
 pub loop-i-init : goal.loop-i-init

@@ -2,8 +2,6 @@
 use mathlib.Core.Path.{◌≡◌}
 use Prim.Native.Nat.{◌-◌, ◌≤◌}
 use lib.ListN.{length}
-use native.Mathlib.Omega.{arith}
-use borrow.Author.Rules.{rules}
 use Rattle.desk.proofs.help.is_asked.Given as goal
 
 abbrev pub invariant-loop-i : goal.invariant-loop-i

@@ -1,6 +1,5 @@
 -- `host::answers::of_move` meets its contract. Assumes nothing.
 use mathlib.Core.Path.{sym, ap, ◌∙◌}
-use borrow.Author.Rules.{rules}
 use Rattle.host.specs.Answers.{answer_of_move}
 use Rattle.host.proofs.answers.of_move.Goals as goal
 

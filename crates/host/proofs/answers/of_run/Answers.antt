@@ -1,7 +1,6 @@
 -- `host::answers::of_run` meets its contract. Assumes nothing.
 use mathlib.Core.Path.{sym, ap, ◌∙◌}
 use Prim.Native.Nat.{ℕ}
-use borrow.Author.Rules.{rules}
 use Rattle.host.specs.Answers.{answer_of_run, done}
 use Rattle.host.proofs.answers.of_run.Goals as goal
 

@@ -1,7 +1,6 @@
 -- `host::answers::of_step` meets its contract. Assumes nothing.
 use mathlib.Core.Path.{sym, ap, ◌∙◌}
 use Prim.Native.Nat.{ℕ}
-use borrow.Author.Rules.{rules}
 use Rattle.host.specs.Answers.{answer_of_step, done}
 use Rattle.host.proofs.answers.of_step.Goals as goal
 

@@ -1,6 +1,5 @@
 -- `host::answers::of_written` meets its contract. Assumes nothing.
 use mathlib.Core.Path.{sym, ap, ◌∙◌}
-use borrow.Author.Rules.{rules}
 use Rattle.host.specs.Answers.{answer_of, done}
 use Rattle.host.proofs.answers.of_written.Goals as goal
 

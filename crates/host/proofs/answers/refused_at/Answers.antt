@@ -1,6 +1,5 @@
 -- `host::answers::refused_at` meets its contract. Assumes nothing.
-use mathlib.Core.Path.{ap₂, ◌∙◌}
-use borrow.Author.Rules.{rules}
+use mathlib.Core.Path.{ap₂}
 use Rattle.host.specs.Answers.{refused}
 use Rattle.host.proofs.answers.refused_at.Goals as goal
 

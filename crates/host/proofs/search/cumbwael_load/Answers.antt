@@ -1,5 +1,4 @@
 -- `host::search::cumbwael_load` meets its contract. Assumes nothing.
-use borrow.Author.Rules.{rules}
 use Rattle.host.proofs.AnswerLaws.{load_said}
 use Rattle.host.proofs.search.cumbwael_load.Goals as goal
 

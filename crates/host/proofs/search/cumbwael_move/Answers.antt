@@ -1,5 +1,4 @@
 -- `host::search::cumbwael_move` meets its contract. Assumes nothing.
-use borrow.Author.Rules.{rules}
 use Rattle.host.proofs.AnswerLaws.{move-said}
 use Rattle.host.proofs.search.cumbwael_move.Goals as goal
 

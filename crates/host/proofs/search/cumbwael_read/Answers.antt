@@ -1,5 +1,4 @@
 -- `host::search::cumbwael_read` meets its contract. Assumes nothing.
-use borrow.Author.Rules.{rules}
 use Rattle.host.proofs.AnswerLaws.{read-said}
 use Rattle.host.proofs.search.cumbwael_read.Goals as goal
 

@@ -1,5 +1,4 @@
 -- `host::search::cumbwael_run` meets its contract. Assumes nothing.
-use borrow.Author.Rules.{rules}
 use Rattle.host.proofs.AnswerLaws.{run-said}
 use Rattle.host.proofs.search.cumbwael_run.Goals as goal
 

@@ -1,5 +1,4 @@
 -- `host::search::cumbwael_step` meets its contract. Assumes nothing.
-use borrow.Author.Rules.{rules}
 use Rattle.host.proofs.AnswerLaws.{step-said}
 use Rattle.host.proofs.search.cumbwael_step.Goals as goal
 
