@@ -1,11 +1,10 @@
 -- The desk program, from the bytes of its file to the bytes of its listing: document 01, "The desk program". The lines themselves stand in `Lines`.
 -- Where the page is silent: an unfit file comes before all else, then the image is judged, then the query; step 65,535 may still be an answer or the end of
 -- the search, and `spent` comes at once after it otherwise, even where the next step would be Full. Assumes nothing.
-use Rattle.std.specs.Prelude.{cond, ◌&&◌, List, [], ◌++◌, ℕ, zero, suc, ◌+◌, ◌-◌, ◌/◌, ◌%◌, eqb, leb, length, take, drop}
+use Rattle.std.specs.Prelude.{cond, ◌&&◌, List, [], ◌++◌, ℕ, zero, suc, ◌+◌, ◌-◌, ◌/◌, ◌%◌, eqb, leb, length, take, drop, Ok, Err}
 use Rattle.model.specs.declared.Outcome.{Outcome}
 use Rattle.model.specs.declared.Outcome.TheVariants.{Tried, Extended, Answer as AnswerMade, Back, Left, Wait, Finished as FinishedSearch, Spent as SpentBudget, Full as FullSlots}
-use Rattle.model.specs.declared.Verdict.{Verdict}
-use Rattle.model.specs.declared.Verdict.TheVariants.{Legal, Refused}
+use Rattle.model.specs.Answers.{Verdict}
 use Rattle.model.specs.Numbers.{refusal_number}
 use Rattle.model.specs.Bytes.{word_of_bytes, words_of_bytes}
 use Rattle.model.specs.Image.{check_query}
@@ -105,8 +104,8 @@ lines_from (suc more) image query m steps =
 
 -- "`refused R P`"; otherwise at most an answer at each step, and the last line
 unfoldable pub search_listing : Verdict → List ℕ → List ℕ → List ℕ
-search_listing (Refused refusal at) image query = refused_line (refusal_number refusal) at
-search_listing Legal image query = lines_from 65536 image query (loaded query) 0
+search_listing (Err stop) image query = refused_line (refusal_number stop.0) stop.1
+search_listing (Ok u) image query = lines_from 65536 image query (loaded query) 0
 
 unfoldable pub parts_listing : FileParts → List ℕ → List ℕ
 parts_listing Unfit words = refused_line 28 0
@@ -132,8 +131,8 @@ refusing number position words m room =
     begun (RefusedFile (length (refused_line number position))) words m (refused_line number position ++ drop (length (refused_line number position)) room)
 
 unfoldable pub begun_by : Verdict → ℕ → ℕ → List ℕ → Memory → List ℕ → Begun
-begun_by (Refused refusal at) size count words m room = refusing (refusal_number refusal) at words m room
-begun_by Legal size count words m room = begun (Ready size count) words m room
+begun_by (Err stop) size count words m room = refusing (refusal_number stop.0) stop.1 words m room
+begun_by (Ok u) size count words m room = begun (Ready size count) words m room
 
 -- the file whose words stand at the front of a room is loaded; a memory of the wrong lengths is refused as 20
 unfoldable pub begun_from : ℕ → ℕ → List ℕ → Memory → List ℕ → Begun

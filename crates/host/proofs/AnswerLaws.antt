@@ -2,11 +2,7 @@
 use mathlib.Core.Path.{◌≡◌, ap, ◌∙◌}
 use mathlib.Core.List.{List}
 use Prim.Native.Nat.{ℕ}
-use Rattle.model.specs.declared.Verdict.{Verdict}
-use Rattle.model.specs.declared.Written.{Written}
-use Rattle.model.specs.declared.StepAnswer.{StepAnswer}
-use Rattle.model.specs.declared.RunAnswer.{RunAnswer}
-use Rattle.model.specs.declared.MoveAnswer.{MoveAnswer}
+use Rattle.model.specs.Answers.{MoveAnswer, RunAnswer, StepAnswer, Verdict, Written}
 use Rattle.model.specs.Memory.{Memory}
 use Rattle.model.specs.Spread.{WrittenTo, written_to}
 use Rattle.model.specs.Calls.{Loaded, StepCalled, RunCalled, MoveCalled, ReadCalled, loaded_to, step_called, run_called, move_called, read_called}

@@ -13,8 +13,8 @@ use lib.Seq.{take-suc-set}
 use borrow.Author.Tests.{eq-eqb, ne_eqb, ltb-true, ltb-false}
 use Rattle.model.specs.declared.Fault.TheVariants.{EndsEarly}
 use Rattle.model.specs.declared.Refusal.TheVariants.{Image}
-use Rattle.model.specs.declared.Verdict.{Verdict}
-use Rattle.model.specs.declared.Verdict.TheVariants.{Legal, Refused}
+use Rattle.model.specs.Answers.{Verdict, refused_at}
+use Rattle.std.proofs.Common.{Ok, Err}
 use Rattle.model.specs.Numbers.{verdict_number}
 use Rattle.model.specs.Image.{check_image}
 use Rattle.model.specs.Bytes.{word_of_bytes, words_from, words_of_bytes, check_bytes}
@@ -49,8 +49,8 @@ take-words_from bytes (suc few) (suc count) k h = ap (λ (l : List ℕ). word_of
 -- a verdict on so few words is reported at a small position
 pub check_image-near : (image : List ℕ) (found : Verdict) → found ≡ check_image image → length image ≤ 131072 → Near found
 unfolding Near
-check_image-near image Legal e h = tt
-check_image-near image (Refused refusal at) e h = let p = check_image-position image refusal at (sym e) in omega arith
+check_image-near image (Ok u) e h = tt
+check_image-near image (Err stop) e h = let p = check_image-position image stop.0 stop.1 (sym e) in omega arith
 
 -- the first 131,072 words are judged as all of them
 check_image-first : (bytes : List ℕ) (whole count : ℕ) → count ≡ min whole 131072 → check_image (words_from bytes count 0) ≡ check_image (words_from bytes whole 0)
@@ -72,6 +72,6 @@ module _ (bytes : List ℕ) (count answer : ℕ) (cut : count ≡ min (length by
   check_bytes-whole w e = simp (eq-eqb (length bytes % 4) 0 w) (e ∙ ap verdict_number (check_image-first bytes (length bytes / 4) count cut))
 
   -- "a byte length that isn't a multiple of four gives 6 at the count of whole words, or at 131,072 if that is less"
-  pub check_bytes-broken : (length bytes % 4 ≡ 0 → ⊥) → answer ≡ verdict_number (Refused (Image EndsEarly) count) → answer ≡ check_bytes bytes
+  pub check_bytes-broken : (length bytes % 4 ≡ 0 → ⊥) → answer ≡ verdict_number (refused_at (Image EndsEarly) count) → answer ≡ check_bytes bytes
   unfolding check_bytes
-  check_bytes-broken w e = simp (ne_eqb (length bytes % 4) 0 w) (e ∙ ap (λ (n : ℕ). verdict_number (Refused (Image EndsEarly) n)) cut)
+  check_bytes-broken w e = simp (ne_eqb (length bytes % 4) 0 w) (e ∙ ap (λ (n : ℕ). verdict_number (refused_at (Image EndsEarly) n)) cut)

@@ -1,17 +1,8 @@
 -- What a call answers to a host in C: numbers of 32 bits, each 0 where it does not apply. Document 01, "return the count of words written",
 -- "steps and runs return outcome and w's slot, runs also the count", "returns the entries passed on both legs", and "Refused calls".
 -- A place in a list can be greater than 32 bits hold; the greatest number then stands for it. Assumes nothing.
-use Rattle.std.specs.Prelude.{List, ℕ, min}
-use Rattle.model.specs.declared.Verdict.{Verdict}
-use Rattle.model.specs.declared.Verdict.TheVariants.{Legal, Refused as RefusedCheck}
-use Rattle.model.specs.declared.Written.{Written}
-use Rattle.model.specs.declared.Written.TheVariants.{Done, Refused}
-use Rattle.model.specs.declared.StepAnswer.{StepAnswer}
-use Rattle.model.specs.declared.StepAnswer.TheVariants.{Done as DoneStep, Refused as RefusedStep}
-use Rattle.model.specs.declared.RunAnswer.{RunAnswer}
-use Rattle.model.specs.declared.RunAnswer.TheVariants.{Done as DoneRun, Refused as RefusedRun}
-use Rattle.model.specs.declared.MoveAnswer.{MoveAnswer}
-use Rattle.model.specs.declared.MoveAnswer.TheVariants.{Done as DoneMove, Refused as RefusedMove}
+use Rattle.std.specs.Prelude.{List, ℕ, min, Ok, Err}
+use Rattle.model.specs.Answers.{MoveAnswer, RunAnswer, StepAnswer, Verdict, Written}
 use Rattle.model.specs.Numbers.{refusal_number}
 use Rattle.model.specs.Machine.{outcome_number}
 use Rattle.model.specs.Memory.{Memory}
@@ -27,25 +18,25 @@ refused number position = record { refusal = number; position = position; outcom
 
 -- of a check of words, and of a load
 abbrev pub answer_of_check : Verdict → Answer
-answer_of_check Legal = done 0 0 0
-answer_of_check (RefusedCheck refusal at) = refused (refusal_number refusal) (min at 4294967295)
+answer_of_check (Ok u) = done 0 0 0
+answer_of_check (Err stop) = refused (refusal_number stop.0) (min stop.1 4294967295)
 
 -- of a call that writes into a room
 abbrev pub answer_of : Written → Answer
-answer_of (Done count) = done 0 0 (min count 4294967295)
-answer_of (Refused refusal at) = refused (refusal_number refusal) (min at 4294967295)
+answer_of (Ok count) = done 0 0 (min count 4294967295)
+answer_of (Err stop) = refused (refusal_number stop.0) (min stop.1 4294967295)
 
 abbrev pub answer_of_step : StepAnswer → Answer
-answer_of_step (DoneStep outcome slot) = done (outcome_number outcome) slot 0
-answer_of_step (RefusedStep refusal at) = refused (refusal_number refusal) (min at 4294967295)
+answer_of_step (Ok (outcome, slot)) = done (outcome_number outcome) slot 0
+answer_of_step (Err stop) = refused (refusal_number stop.0) (min stop.1 4294967295)
 
 abbrev pub answer_of_run : RunAnswer → Answer
-answer_of_run (DoneRun outcome slot count) = done (outcome_number outcome) slot count
-answer_of_run (RefusedRun refusal at) = refused (refusal_number refusal) (min at 4294967295)
+answer_of_run (Ok (outcome, slot, count)) = done (outcome_number outcome) slot count
+answer_of_run (Err stop) = refused (refusal_number stop.0) (min stop.1 4294967295)
 
 abbrev pub answer_of_move : MoveAnswer → Answer
-answer_of_move (DoneMove passed) = done 0 0 passed
-answer_of_move (RefusedMove refusal at) = refused (refusal_number refusal) (min at 4294967295)
+answer_of_move (Ok passed) = done 0 0 passed
+answer_of_move (Err stop) = refused (refusal_number stop.0) (min stop.1 4294967295)
 
 -- an answer and the memory after the call
 pub record Called : Type 0 where

@@ -5,10 +5,8 @@ use Rattle.std.proofs.Common.{ap, ◌∙◌, sym, arith, length-take-le, get_or-
 use Rattle.model.specs.declared.Kind.TheVariants.{Header}
 use Rattle.model.specs.declared.Fault.{Fault}
 use Rattle.model.specs.declared.Fault.TheVariants.{WrongEdition, NoPredicates, ZeroField, LengthField}
-use Rattle.model.specs.declared.Walk.{Walk}
-use Rattle.model.specs.declared.Walk.TheVariants.{Met}
+use Rattle.model.specs.Answers.{Walk, met, refused_at}
 use Rattle.model.specs.declared.Refusal.TheVariants.{Image}
-use Rattle.model.specs.declared.Verdict.TheVariants.{Refused}
 use Rattle.model.specs.Fields.{widths_of, edition, predicate_count, header_zero, image_length}
 use Rattle.model.specs.Image.{onward, predicates, header, ending, image_walk, verdict, check_image}
 use Rattle.words.proofs.FieldLaws.{field_lt}
@@ -26,21 +24,21 @@ long_fault word =
     ZeroField))
     WrongEdition
 
-header-long : (image : List ℕ) → 131072 ≤ length image → header image ≡ Met (long_fault (get_or image 0 0)) 0
+header-long : (image : List ℕ) → 131072 ≤ length image → header image ≡ met (long_fault (get_or image 0 0)) 0
 unfolding header long_fault
 header-long image h =
     simp (ne_eqb (length image) 0 (omega arith), ne_eqb (image_length (get_or image 0 0)) (length image) (omega (arith, image_length-lt (get_or image 0 0))))
     (go (eqb (edition (get_or image 0 0)) 1) (eqb (predicate_count (get_or image 0 0)) 0) (eqb (header_zero (get_or image 0 0)) 0))
   where
     go : (edition? none? zero? : Bool)
-        → cond edition? (cond none? (Met NoPredicates 0) (cond zero? (Met LengthField 0) (Met ZeroField 0))) (Met WrongEdition 0)
-        ≡ Met (cond edition? (cond none? NoPredicates (cond zero? LengthField ZeroField)) WrongEdition) 0
+        → cond edition? (cond none? (met NoPredicates 0) (cond zero? (met LengthField 0) (met ZeroField 0))) (met WrongEdition 0)
+        ≡ met {A = ℕ × ℕ} (cond edition? (cond none? NoPredicates (cond zero? LengthField ZeroField)) WrongEdition) 0
     go false n z = refl
     go true true z = refl
     go true false true = refl
     go true false false = refl
 
-pub check_image-fault : (image : List ℕ) → 131072 ≤ length image → check_image image ≡ Refused (Image (long_fault (get_or image 0 0))) 0
+pub check_image-fault : (image : List ℕ) → 131072 ≤ length image → check_image image ≡ refused_at (Image (long_fault (get_or image 0 0))) 0
 unfolding check_image image_walk
 check_image-fault image h =
     ap (λ (walk : Walk). verdict Image (onward (ending image) (onward (predicates (predicate_count (get_or image 0 0)) image 0) walk))) (header-long image h)
@@ -48,4 +46,4 @@ check_image-fault image h =
 pub check_image-long : (image : List ℕ) → 131072 ≤ length image → check_image (take 131072 image) ≡ check_image image
 check_image-long image h =
     let l : 131072 ≤ length (take 131072 image) = rw (length-take-le 131072 image h) (omega arith) in
-    check_image-fault (take 131072 image) l ∙ ap (λ (word : ℕ). Refused (Image (long_fault word)) 0) (get_or-take 131072 image 0 0 (omega arith)) ∙ sym (check_image-fault image h)
+    check_image-fault (take 131072 image) l ∙ ap (λ (word : ℕ). refused_at (Image (long_fault word)) 0) (get_or-take 131072 image 0 0 (omega arith)) ∙ sym (check_image-fault image h)

@@ -1,36 +1,35 @@
 -- Where the walk can stand and where faults are reported: never behind the position that it began at, never past the slice's length.
 -- Document 01, "Rule image", the table of faults: "reported at". Assumes nothing.
-use Rattle.std.specs.Prelude.{◌≡◌, refl, Bool, true, false, cond, List, ℕ, zero, suc, ◌+◌, ◌-◌, ◌≤◌, ◌<◌, eqb, ltb, leb, length, get_or}
-use Rattle.std.proofs.Common.{subst, arith, le_refl, ltb-true, leb-true}
+use Rattle.std.specs.Prelude.{◌≡◌, refl, Bool, true, false, cond, List, ℕ, zero, suc, ◌+◌, ◌-◌, ◌≤◌, ◌<◌, eqb, ltb, leb, length, get_or, Ok, Err}
+use Rattle.std.proofs.Common.{subst, ap, arith, le_refl, ltb-true, leb-true}
 use Rattle.model.specs.declared.Fault.{Fault}
 use Rattle.model.specs.declared.Fault.TheVariants.{EmptyImage, WrongEdition, NoPredicates, ZeroField, LengthField, EndsEarly, FirstClause, ClauseExpected, VariableCount, GoalCount, ArgumentExpected, VariableNumber, GoalExpected, NoSuchPredicate, UnusedVariable, ClauseLength, LeftOver}
-use Rattle.model.specs.declared.Walk.{Walk}
-use Rattle.model.specs.declared.Walk.TheVariants.{On, Met}
+use Rattle.model.specs.Answers.{Walk, met, refused_at}
 use Rattle.model.specs.declared.Refusal.{Refusal}
+use Rattle.model.specs.declared.Refused.{Refused}
 use Rattle.model.specs.declared.Refusal.TheVariants.{Image}
-use Rattle.model.specs.declared.Verdict.TheVariants.{Refused}
 use Rattle.model.specs.Fields.{edition, predicate_count, header_zero, image_length, arity, clause_count, first_clause, op, variables, goal_count, clause_length, variable_zero, variable_number, goal_predicate, goal_zero}
 use Rattle.model.specs.Image.{onward, variable_at, argument, arguments, predicate_word, goal_word, goal, goals, clause_word, clause_end, clause, clauses, predicate, predicates, header, ending, image_walk, verdict, check_image}
 
 -- on: between the two positions; a fault: not past the second
 abbrev pub Between : ℕ → ℕ → Walk → Type 0
-Between from most (On at seen) = (from ≤ at) × (at ≤ most)
-Between from most (Met fault at) = at ≤ most
+Between from most (Ok (at, seen)) = (from ≤ at) × (at ≤ most)
+Between from most (Err stop) = stop.1 ≤ most
 
 between-from : (from at most : ℕ) (walk : Walk) → from ≤ at → Between at most walk → Between from most walk
-between-from from at most (On next seen) h b = (omega arith, b.1)
-between-from from at most (Met fault place) h b = b
+between-from from at most (Ok (next, seen)) h b = (omega arith, b.1)
+between-from from at most (Err stop) h b = b
 
 pub between-onward : (from most : ℕ) (next : ℕ → ℕ → Walk) (walk : Walk)
     → ((at seen : ℕ) → at ≤ most → Between at most (next at seen)) → Between from most walk → Between from most (onward next walk)
-between-onward from most next (On at seen) each b = between-from from at most (next at seen) b.0 (each at seen b.1)
-between-onward from most next (Met fault at) each b = b
+between-onward from most next (Ok (at, seen)) each b = between-from from at most (next at seen) b.0 (each at seen b.1)
+between-onward from most next (Err stop) each b = b
 
-pub between-on : (from most at seen : ℕ) (walk : Walk) → walk ≡ On at seen → Between from most walk → (from ≤ at) × (at ≤ most)
+pub between-on : (from most at seen : ℕ) (walk : Walk) → walk ≡ Ok (at, seen) → Between from most walk → (from ≤ at) × (at ≤ most)
 between-on from most at seen walk e b = subst (Between from most) e b
 
 -- a walk that takes one thing after another
-between-repeat : (most : ℕ) (walk : ℕ → ℕ → ℕ → Walk) (one : ℕ → ℕ → Walk) → ((at seen : ℕ) → walk 0 at seen ≡ On at seen)
+between-repeat : (most : ℕ) (walk : ℕ → ℕ → ℕ → Walk) (one : ℕ → ℕ → Walk) → ((at seen : ℕ) → walk 0 at seen ≡ Ok (at, seen))
     → ((left at seen : ℕ) → walk (suc left) at seen ≡ onward (walk left) (one at seen))
     → ((at seen : ℕ) → at ≤ most → Between at most (one at seen)) → (left at seen : ℕ) → at ≤ most → Between at most (walk left at seen)
 between-repeat most walk one none more each zero at seen h = rw (none at seen) (omega arith)
@@ -43,7 +42,7 @@ variable-between word declared at seen most h =
     go (eqb (variable_zero word) 0) (ltb (variable_number word) declared) (ltb (variable_number word) seen) (eqb (variable_number word) seen)
   where
     go : (zero? declared? below? next? : Bool)
-        → Between at most (cond zero? (cond declared? (cond below? (On (at + 1) seen) (cond next? (On (at + 1) (seen + 1)) (Met VariableNumber at))) (Met VariableNumber at)) (Met ZeroField at))
+        → Between at most (cond zero? (cond declared? (cond below? (Ok (at + 1, seen)) (cond next? (Ok (at + 1, seen + 1)) (met VariableNumber at))) (met VariableNumber at)) (met ZeroField at))
     go false d b e = omega arith
     go true false b e = omega arith
     go true true true e = omega arith
@@ -55,7 +54,7 @@ unfolding argument
 argument-between words declared at seen h = go (ltb at (length words)) refl (eqb (op (get_or words at 0)) 1) (eqb (op (get_or words at 0)) 2)
   where
     go : (present? : Bool) → ltb at (length words) ≡ present? → (variable? constant? : Bool)
-        → Between at (length words) (cond present? (cond variable? (variable_at (get_or words at 0) declared at seen) (cond constant? (On (at + 1) seen) (Met ArgumentExpected at))) (Met EndsEarly (length words)))
+        → Between at (length words) (cond present? (cond variable? (variable_at (get_or words at 0) declared at seen) (cond constant? (Ok (at + 1, seen)) (met ArgumentExpected at))) (met EndsEarly (length words)))
     go false q v c = omega arith
     go true q true c = variable-between (get_or words at 0) declared at seen (length words) (ltb-true at (length words) q)
     go true q false true = let l = ltb-true at (length words) q in omega arith
@@ -72,7 +71,7 @@ goal_word-between image words at seen h =
     go (ltb at (length words)) refl (eqb (op (get_or words at 0)) 9) (eqb (goal_zero (get_or words at 0)) 0) (ltb (goal_predicate (get_or words at 0)) (predicate_count (get_or image 0 0)))
   where
     go : (present? : Bool) → ltb at (length words) ≡ present? → (goal? zero? known? : Bool)
-        → Between at (length words) (cond present? (cond goal? (cond zero? (cond known? (On (at + 1) seen) (Met NoSuchPredicate at)) (Met ZeroField at)) (Met GoalExpected at)) (Met EndsEarly (length words)))
+        → Between at (length words) (cond present? (cond goal? (cond zero? (cond known? (Ok (at + 1, seen)) (met NoSuchPredicate at)) (met ZeroField at)) (met GoalExpected at)) (met EndsEarly (length words)))
     go false q g z k = omega arith
     go true q false z k = omega arith
     go true q true false k = omega arith
@@ -102,7 +101,7 @@ clause_word-between words fewest at h =
     go (ltb at (length words)) refl (eqb (op (get_or words at 0)) 8) (leb (variables (get_or words at 0)) 32) (leb (goal_count (get_or words at 0)) 16) (leb fewest (goal_count (get_or words at 0)))
   where
     go : (present? : Bool) → ltb at (length words) ≡ present? → (clause? variables? most? least? : Bool)
-        → Between at (length words) (cond present? (cond clause? (cond variables? (cond most? (cond least? (On (at + 1) 0) (Met GoalCount at)) (Met GoalCount at)) (Met VariableCount at)) (Met ClauseExpected at)) (Met EndsEarly (length words)))
+        → Between at (length words) (cond present? (cond clause? (cond variables? (cond most? (cond least? (Ok (at + 1, 0)) (met GoalCount at)) (met GoalCount at)) (met VariableCount at)) (met ClauseExpected at)) (met EndsEarly (length words)))
     go false q c v m l = omega arith
     go true q false v m l = omega arith
     go true q true false m l = omega arith
@@ -111,7 +110,7 @@ clause_word-between words fewest at h =
     go true q true true true false = omega arith
 
 -- the walk goes on past a word only if there is one
-pub clause_word-present : (words : List ℕ) (fewest at next seen : ℕ) → clause_word words fewest at ≡ On next seen → at < length words
+pub clause_word-present : (words : List ℕ) (fewest at next seen : ℕ) → clause_word words fewest at ≡ Ok (next, seen) → at < length words
 unfolding clause_word
 clause_word-present words fewest at next seen e = go (ltb at (length words)) refl e
   where
@@ -120,13 +119,13 @@ clause_word-present words fewest at next seen e = go (ltb at (length words)) ref
         cond (eqb (op (get_or words at 0)) 8)
         (cond (leb (variables (get_or words at 0)) 32)
         (cond (leb (goal_count (get_or words at 0)) 16)
-        (cond (leb fewest (goal_count (get_or words at 0))) (On (at + 1) 0)
-        (Met GoalCount at))
-        (Met GoalCount at))
-        (Met VariableCount at))
-        (Met ClauseExpected at)
+        (cond (leb fewest (goal_count (get_or words at 0))) (Ok (at + 1, 0))
+        (met GoalCount at))
+        (met GoalCount at))
+        (met VariableCount at))
+        (met ClauseExpected at)
 
-    go : (present? : Bool) → ltb at (length words) ≡ present? → cond present? judged (Met EndsEarly (length words)) ≡ On next seen → at < length words
+    go : (present? : Bool) → ltb at (length words) ≡ present? → cond present? judged (met EndsEarly (length words)) ≡ Ok (next, seen) → at < length words
     go true q r = ltb-true at (length words) q
     go false q r = let z : ◌≡◌ {A = ℕ} 0 1 = cc in absurd (omega arith)
 
@@ -134,7 +133,7 @@ clause_end-between : (word start at seen most : ℕ) → start ≤ most → at �
 unfolding clause_end
 clause_end-between word start at seen most a b = go (ltb seen (variables word)) (eqb (clause_length word) (at - start))
   where
-    go : (unused? length? : Bool) → Between at most (cond unused? (Met UnusedVariable start) (cond length? (On at 0) (Met ClauseLength start)))
+    go : (unused? length? : Bool) → Between at most (cond unused? (met UnusedVariable start) (cond length? (Ok (at, 0)) (met ClauseLength start)))
     go true l = a
     go false true = omega arith
     go false false = a
@@ -158,7 +157,7 @@ predicate-between : (image : List ℕ) (number at seen : ℕ) → number < lengt
 unfolding predicate
 predicate-between image number at seen n h = go (eqb (first_clause (predicate_word image number)) at)
   where
-    go : (first? : Bool) → Between at (length image) (cond first? (clauses (clause_count (predicate_word image number)) image (arity (predicate_word image number)) at seen) (Met FirstClause (1 + number)))
+    go : (first? : Bool) → Between at (length image) (cond first? (clauses (clause_count (predicate_word image number)) image (arity (predicate_word image number)) at seen) (met FirstClause (1 + number)))
     go true = clauses-between image (arity (predicate_word image number)) (clause_count (predicate_word image number)) at seen h
     go false = omega arith
 
@@ -171,8 +170,8 @@ predicates-between image (suc left) number at seen n h =
 
 -- what the header's walk gives: a fault within the slice, or the place past all predicate words
 data Begun (image : List ℕ) : Walk → Type 0 where
-  stopped : {fault : Fault} {at : ℕ} → at ≤ length image → Begun image (Met fault at)
-  begun : 1 + predicate_count (get_or image 0 0) ≤ length image → Begun image (On (1 + predicate_count (get_or image 0 0)) 0)
+  stopped : {fault : Fault} {at : ℕ} → at ≤ length image → Begun image (met fault at)
+  begun : 1 + predicate_count (get_or image 0 0) ≤ length image → Begun image (Ok (1 + predicate_count (get_or image 0 0), 0))
 
 header-begun : (image : List ℕ) → Begun image (header image)
 unfolding header
@@ -181,16 +180,16 @@ header-begun image =
     (leb (1 + predicate_count (get_or image 0 0)) (length image)) refl
   where
     go : (empty? edition? none? zero? length? : Bool) (all? : Bool) → leb (1 + predicate_count (get_or image 0 0)) (length image) ≡ all? → Begun image
-        (cond empty? (Met EmptyImage 0)
+        (cond empty? (met EmptyImage 0)
         (cond edition?
-        (cond none? (Met NoPredicates 0)
+        (cond none? (met NoPredicates 0)
         (cond zero?
         (cond length?
-        (cond all? (On (1 + predicate_count (get_or image 0 0)) 0)
-        (Met EndsEarly (length image)))
-        (Met LengthField 0))
-        (Met ZeroField 0)))
-        (Met WrongEdition 0)))
+        (cond all? (Ok (1 + predicate_count (get_or image 0 0), 0))
+        (met EndsEarly (length image)))
+        (met LengthField 0))
+        (met ZeroField 0)))
+        (met WrongEdition 0)))
     go true e n z l a q = stopped {at = 0} (omega arith)
     go false false n z l a q = stopped {at = 0} (omega arith)
     go false true true z l a q = stopped {at = 0} (omega arith)
@@ -203,7 +202,7 @@ ending-between : (words : List ℕ) (at seen : ℕ) → at ≤ length words → 
 unfolding ending
 ending-between words at seen h = go (ltb at (length words))
   where
-    go : (over? : Bool) → Between at (length words) (cond over? (Met LeftOver at) (On at seen))
+    go : (over? : Bool) → Between at (length words) (cond over? (met LeftOver at) (Ok (at, seen)))
     go true = h
     go false = omega arith
 
@@ -213,16 +212,16 @@ image_walk-between image =
     between-onward 0 (length image) (ending image) (onward (predicates (predicate_count (get_or image 0 0)) image 0) (header image)) (ending-between image) (go (header image) (header-begun image))
   where
     go : (walk : Walk) → Begun image walk → Between 0 (length image) (onward (predicates (predicate_count (get_or image 0 0)) image 0) walk)
-    go (Met fault at) (stopped h) = h
-    go (On at seen) (begun h) =
+    go (Err stop) (stopped h) = h
+    go (Ok (at, seen)) (begun h) =
         between-from 0 (1 + predicate_count (get_or image 0 0)) (length image) (predicates (predicate_count (get_or image 0 0)) image 0 (1 + predicate_count (get_or image 0 0)) 0) (omega arith)
         (predicates-between image (predicate_count (get_or image 0 0)) 0 (1 + predicate_count (get_or image 0 0)) 0 (omega arith) h)
 
 -- a refusal of an image is reported within it, or at its length
-pub check_image-position : (image : List ℕ) (refusal : Refusal) (at : ℕ) → check_image image ≡ Refused refusal at → at ≤ length image
+pub check_image-position : (image : List ℕ) (refusal : Refusal) (at : ℕ) → check_image image ≡ refused_at refusal at → at ≤ length image
 unfolding check_image
 check_image-position image refusal at e = go (image_walk image) (image_walk-between image) e
   where
-    go : (walk : Walk) → Between 0 (length image) walk → verdict Image walk ≡ Refused refusal at → at ≤ length image
-    go (On next seen) b q = let z : ◌≡◌ {A = ℕ} 0 1 = cc in absurd (omega arith)
-    go (Met fault place) b q = let z : place ≡ at = cc in omega arith
+    go : (walk : Walk) → Between 0 (length image) walk → verdict Image walk ≡ refused_at refusal at → at ≤ length image
+    go (Ok (next, seen)) b q = let z : ◌≡◌ {A = ℕ} 0 1 = cc in absurd (omega arith)
+    go (Err stop) b q = let z : ◌≡◌ {A = Refused} (record { 0 = Image stop.0; 1 = stop.1 }) (record { 0 = refusal; 1 = at }) = cc in subst (λ n. n ≤ length image) (ap (λ (r : Refused). r.1) z) b

@@ -10,8 +10,8 @@ use lib.ListN.{length, take, drop}
 use lib.Seq.{take-nil}
 use borrow.Author.Tests.{le-leb, lt-leb}
 use Rattle.model.specs.declared.Refusal.{Refusal}
-use Rattle.model.specs.declared.Verdict.{Verdict}
-use Rattle.model.specs.declared.Verdict.TheVariants.{Legal, Refused}
+use Rattle.model.specs.Answers.{Verdict, refused_at}
+use Rattle.std.proofs.Common.{Ok}
 use Rattle.model.specs.Numbers.{refusal_number}
 use Rattle.model.specs.Memory.{Memory}
 use Rattle.model.specs.Calls.{Loaded, loaded_to, load_call}
@@ -41,7 +41,7 @@ module _ (size count : ℕ) (words : List ℕ) (m : Memory) (room : List ℕ) (f
       ap (λ (l : Loaded). begun_by l.answer size count words l.after room)
       (did ∙ ap₂ (λ (i : List ℕ) (n : ℕ). load_call i (take n (drop 1 words)) m) (sym (drop-take (1 + size) count words)) own)
 
-  pub begun-refused : (refusal : Refusal) (at number written : ℕ) (end : List ℕ) → found ≡ Refused refusal at → number ≡ refusal_number refusal → 1024 ≤ length room
+  pub begun-refused : (refusal : Refusal) (at number written : ℕ) (end : List ℕ) → found ≡ refused_at refusal at → number ≡ refusal_number refusal → 1024 ≤ length room
       → wrote written end ≡ line_in (roomy room) (refused_line number at) room → begun (RefusedFile written) words after end ≡ begun_from size count words m room
   unfolding begun_by
   begun-refused refusal at number written end is numbered h wrote_it =
@@ -49,7 +49,7 @@ module _ (size count : ℕ) (words : List ℕ) (m : Memory) (room : List ℕ) (f
       (wrote_it ∙ ap₂ (λ b (n : ℕ). line_in b (refused_line n at) room) (le-leb 1024 (length room) h) numbered)
       ∙ ap (λ (v : Verdict). begun_by v size count words after room) (sym is) ∙ begun-from
 
-  pub begun-ready : found ≡ Legal → begun (Ready size count) words after room ≡ begun_from size count words m room
+  pub begun-ready : found ≡ Ok tt → begun (Ready size count) words after room ≡ begun_from size count words m room
   unfolding begun_by
   begun-ready is = ap (λ (v : Verdict). begun_by v size count words after room) (sym is) ∙ begun-from
 

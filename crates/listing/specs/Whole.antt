@@ -1,12 +1,11 @@
 -- The calls, one after another, print the whole listing: document 01, "The desk program". `open` gives the only line or the search, and `next_line` a line of the search
 -- and what is left of it. So what a program prints that writes out each line in turn is the definition's `listing`. Assumes nothing.
-use Rattle.std.specs.Prelude.{◌≡◌, Bool, true, cond, List, [], ◌++◌, ℕ, suc, ◌+◌, ◌/◌, ◌≤◌, length, take, drop}
+use Rattle.std.specs.Prelude.{◌≡◌, Bool, true, cond, List, [], ◌++◌, ℕ, suc, ◌+◌, ◌/◌, ◌≤◌, length, take, drop, Ok, Err}
 use Rattle.std.proofs.Math.Path.{refl, sym, ap}
 use Rattle.std.proofs.Common.{ap₂, ◌∙◌, arith, length-drop, take_at, eq-eqb, le-leb}
 use Rattle.std.proofs.Math.Seq.{take-append_seam}
 use Rattle.std.proofs.lemmas.List.{take-append-le, drop-append-le}
-use Rattle.model.specs.declared.Verdict.{Verdict}
-use Rattle.model.specs.declared.Verdict.TheVariants.{Legal, Refused}
+use Rattle.model.specs.Answers.{Verdict, refused_at}
 use Rattle.model.specs.declared.Refusal.TheVariants.{SliceLength}
 use Rattle.model.specs.Numbers.{refusal_number}
 use Rattle.model.specs.Bytes.{words_of_bytes}
@@ -70,8 +69,8 @@ module _ (size count : ℕ) (words : List ℕ) (m : Memory) (room : List ℕ) (r
 
   search-begun : (found : Verdict) → search_listing found image query ≡ begun_listing (let l = load_if found query m in begun_by l.answer size count words l.after room)
   unfolding search_listing load_if begun_by
-  search-begun Legal = refl
-  search-begun (Refused refusal at) =
+  search-begun (Ok u) = refl
+  search-begun (Err stop) =
       sym (take-append_seam (refused_line (refusal_number refusal) at) (drop (length (refused_line (refusal_number refusal) at)) room))
 
   parts-begun : search_listing (check_query image query) image query ≡ begun_listing (begun_from size count words m room)
@@ -79,7 +78,7 @@ module _ (size count : ℕ) (words : List ℕ) (m : Memory) (room : List ℕ) (r
   parts-begun =
       search-begun (check_query image query)
       ∙ ap (λ (l : Loaded). begun_listing (begun_by l.answer size count words l.after room))
-      (ap (λ (b : Bool). load_if (cond b (check_query image query) (Refused SliceLength 0)) query m) (sym right))
+      (ap (λ (b : Bool). load_if (cond b (check_query image query) (refused_at SliceLength 0)) query m) (sym right))
 
 -- the parts of a file are the same among its words and at the front of the room
 query-laid : (all rest : List ℕ) (size : ℕ) → 1 + size ≤ length all → query_of all size ≡ query_of (all ++ rest) size

@@ -1,9 +1,9 @@
 -- Arguments: the walk over them finds no fault exactly where their encoding stands, and decoding gives them back. Document 01, "Rule image", VAR, CON, faults 4, 6, 11 and 12. Assumes nothing.
 use Rattle.std.specs.Prelude.{◌≡◌, refl, Bool, true, false, cond, List, [], ◌∷◌, map, ℕ, zero, suc, ◌+◌, ◌^◌, ◌≤◌, ◌<◌, max, eqb, ltb, length, get_or}
-use Rattle.std.proofs.Common.{sym, ap, ap₂, ◌∙◌, arith, add-zero, eqb-true, eq-eqb, ltb-true, ltb-false, lt-ltb}
+use Rattle.std.proofs.Common.{sym, ap, ap₂, ◌∙◌, arith, add-zero, eqb-true, eq-eqb, ltb-true, ltb-false, lt-ltb, Ok}
 use Rattle.model.specs.declared.Kind.TheVariants.{Var, Con}
 use Rattle.model.specs.declared.Fault.TheVariants.{ZeroField, EndsEarly, ArgumentExpected, VariableNumber}
-use Rattle.model.specs.declared.Walk.TheVariants.{On, Met}
+use Rattle.model.specs.Answers.{Walk, met}
 use Rattle.model.specs.Fields.{widths_of, total, below, field, op, variable_zero, variable_number, constant}
 use Rattle.model.specs.Image.{onward, variable_at, argument, arguments}
 use Rattle.model.specs.Rules.{Argument, con, var}
@@ -12,7 +12,7 @@ use Rattle.model.specs.Decoding.{decode_arg, decode_args}
 use Rattle.words.specs.FieldLaws.{fields_from}
 use Rattle.words.proofs.FieldLaws.{field-join, field_lt, join-field}
 use Rattle.meaning.specs.Stands.{Stands}
-use Rattle.meaning.proofs.Walks.{cond-held, onward-passed}
+use Rattle.meaning.proofs.Walks.{cond-held, onward-passed, same_place}
 use Rattle.meaning.specs.Reading.{Read}
 use Rattle.meaning.proofs.Reading.{read-append, read_left, read_right}
 
@@ -49,14 +49,14 @@ con-word word h e = sym (rw e at (join-field (widths_of Con) word h))
 
 -- one argument, where its word stands
 pub argument-complete : (words : List ℕ) (arg : Argument) (declared at seen : ℕ) → declared ≤ 64 → Stands words at (encode_arg arg ∷ []) → WellFormedArg seen arg → seen_with seen arg ≤ declared
-    → argument words declared at seen ≡ On (at + 1) (seen_with seen arg)
+    → argument words declared at seen ≡ Ok (at + 1, seen_with seen arg)
 unfolding argument variable_at seen_with
 argument-complete words (con value) declared at seen few h good l =
     let f = con-fields value good in
     rw (lt-ltb at (length words) h.0, h.1, f.is_op) refl
 argument-complete words (var number) declared at seen few h good l = go (ltb number seen) refl
   where
-    go : (before : Bool) → ltb number seen ≡ before → argument words declared at seen ≡ On (at + 1) (max seen (suc number))
+    go : (before : Bool) → ltb number seen ≡ before → argument words declared at seen ≡ Ok (at + 1, max seen (suc number))
     go true q =
         let f = var-fields number (omega arith) in
         let m : max seen (suc number) ≡ seen = omega (arith, ltb-true number seen q) in
@@ -81,7 +81,7 @@ pub record VarFound (word declared at seen end after : ℕ) : Type 0 where
   pub ends : end ≡ at + 1
   pub counts : after ≡ max seen (suc (variable_number word))
 
-pub variable-sound : (word declared at seen : ℕ) {end after : ℕ} → variable_at word declared at seen ≡ On end after → VarFound word declared at seen end after
+pub variable-sound : (word declared at seen : ℕ) {end after : ℕ} → variable_at word declared at seen ≡ Ok (end, after) → VarFound word declared at seen end after
 unfolding variable_at
 variable-sound word declared at seen {end} {after} e =
     let zeros = cond-held (eqb (variable_zero word) 0) ZeroField at e in
@@ -89,21 +89,22 @@ variable-sound word declared at seen {end} {after} e =
     go (eqb-true (variable_zero word) 0 zeros.0) (ltb-true (variable_number word) declared number.0) (ltb (variable_number word) seen) refl number.1
   where
     go : variable_zero word ≡ 0 → variable_number word < declared → (before : Bool) → ltb (variable_number word) seen ≡ before
-        → cond before (On (at + 1) seen) (cond (eqb (variable_number word) seen) (On (at + 1) (seen + 1)) (Met VariableNumber at)) ≡ On end after → VarFound word declared at seen end after
+        → cond {A = Walk} before (Ok (at + 1, seen)) (cond (eqb (variable_number word) seen) (Ok (at + 1, seen + 1)) (met VariableNumber at)) ≡ Ok (end, after) → VarFound word declared at seen end after
     go z l true q k =
-        let x : end ≡ at + 1 = cc in
-        let y : after ≡ seen = cc in
+        let s = same_place k in
+        let x : end ≡ at + 1 = s.0 in
+        let y : after ≡ seen = s.1 in
         record { is_zero = z; declares = l; firsts = omega (arith, ltb-true (variable_number word) seen q); ends = x; counts = omega (arith, ltb-true (variable_number word) seen q) }
     go z l false q k =
         let next = cond-held (eqb (variable_number word) seen) VariableNumber at k in
         let same = eqb-true (variable_number word) seen next.0 in
-        let t = next.1 in
-        let x : end ≡ at + 1 = cc in
-        let y : after ≡ seen + 1 = cc in
+        let s = same_place next.1 in
+        let x : end ≡ at + 1 = s.0 in
+        let y : after ≡ seen + 1 = s.1 in
         record { is_zero = z; declares = l; firsts = omega arith; ends = x; counts = omega arith }
 
 -- what stands where one argument was found: the argument that it decodes to
-pub argument-sound : (words : List ℕ) → Words words → (declared at seen : ℕ) {end after : ℕ} → seen ≤ declared → argument words declared at seen ≡ On end after
+pub argument-sound : (words : List ℕ) → Words words → (declared at seen : ℕ) {end after : ℕ} → seen ≤ declared → argument words declared at seen ≡ Ok (end, after)
     → Read words (encode_arg (decode_arg (get_or words at 0)) ∷ []) (decode_arg (get_or words at 0) ∷ []) declared at seen end after
 unfolding argument seen_after seen_with decode_arg widths_of
 argument-sound words small declared at seen {end} {after} few e =
@@ -115,7 +116,7 @@ argument-sound words small declared at seen {end} {after} few e =
     is arg l w good x y k = record { stands = (l, w, tt); ends = x; numbered = (good, tt); counted = y; kept = k }
 
     go : at < length words → (variable : Bool) → eqb (op (get_or words at 0)) 1 ≡ variable
-        → cond variable (variable_at (get_or words at 0) declared at seen) (cond (eqb (op (get_or words at 0)) 2) (On (at + 1) seen) (Met ArgumentExpected at)) ≡ On end after
+        → cond {A = Walk} variable (variable_at (get_or words at 0) declared at seen) (cond (eqb (op (get_or words at 0)) 2) (Ok (at + 1, seen)) (met ArgumentExpected at)) ≡ Ok (end, after)
         → Read words (encode_arg (cond variable (var (variable_number (get_or words at 0))) (con (constant (get_or words at 0)))) ∷ [])
         (cond variable (var (variable_number (get_or words at 0))) (con (constant (get_or words at 0))) ∷ []) declared at seen end after
     go l true q k =
@@ -124,14 +125,14 @@ argument-sound words small declared at seen {end} {after} few e =
         (omega arith)
     go l false q k =
         let second = cond-held (eqb (op (get_or words at 0)) 2) ArgumentExpected at k in
-        let t = second.1 in
-        let x : end ≡ at + 1 = cc in
-        let y : after ≡ seen = cc in
+        let s = same_place second.1 in
+        let x : end ≡ at + 1 = s.0 in
+        let y : after ≡ seen = s.1 in
         is (con (constant (get_or words at 0))) l (con-word (get_or words at 0) (small at) (eqb-true (op (get_or words at 0)) 2 second.0)) (field_lt (widths_of Con) (get_or words at 0) 1) x y (omega arith)
 
 -- the walk finds no fault where the arguments' encoding stands
 pub arguments-complete : {words : List ℕ} (args : List Argument) {declared at seen end after : ℕ} → declared ≤ 64 → Read words (map encode_arg args) args declared at seen end after
-    → arguments (length args) words declared at seen ≡ On end after
+    → arguments (length args) words declared at seen ≡ Ok (end, after)
 unfolding arguments seen_after
 arguments-complete [] {at = at} few r = let e = r.ends in let x = add-zero at in let k = r.counted in cc
 arguments-complete {words} (arg ∷ args) {declared} {at} {seen} few r =
@@ -159,11 +160,12 @@ length-decode_args (suc count) words at = ap suc (length-decode_args count words
 
 -- where the walk found none, the encoding stands of the arguments that the words decode to
 pub arguments_sound : (count : ℕ) (words : List ℕ) → Words words → (declared at seen : ℕ) {end after : ℕ} → seen ≤ declared
-    → arguments count words declared at seen ≡ On end after → Read words (map encode_arg (decode_args count words at)) (decode_args count words at) declared at seen end after
+    → arguments count words declared at seen ≡ Ok (end, after) → Read words (map encode_arg (decode_args count words at)) (decode_args count words at) declared at seen end after
 unfolding arguments decode_args seen_after
 arguments_sound zero words small declared at seen {end} {after} few e =
-    let x : end ≡ at = cc in
-    let y : after ≡ seen = cc in
+    let s = same_place e in
+    let x : end ≡ at = s.0 in
+    let y : after ≡ seen = s.1 in
     record { stands = tt; ends = x ∙ sym (add-zero at); numbered = tt; counted = y; kept = omega arith }
 arguments_sound (suc count) words small declared at seen few e =
     let p = onward-passed (arguments count words declared) (argument words declared at seen) e in

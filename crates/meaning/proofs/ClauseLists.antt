@@ -1,19 +1,18 @@
 -- The clauses of a predicate, one behind the other: the walk over them, their decoding, and the places that following the length fields visits. Document 01, "Rule image", "then all clauses". Assumes nothing.
 use Rattle.std.specs.Prelude.{◌≡◌}
 use Rattle.std.proofs.Math.Path.{refl, sym, ap, ap₂}
-use Rattle.std.proofs.Common.{◌∙◌, arith}
+use Rattle.std.proofs.Common.{◌∙◌, arith, Ok}
 use mathlib.Core.List.{List, [], ◌∷◌, ◌++◌, flat_map}
 use Prim.Native.Nat.{ℕ, zero, suc, ◌+◌, ◌≤◌}
 use Rattle.std.proofs.Math.Nat.{add-zero}
 use Rattle.std.proofs.Math.ListN.{length, length-append}
-use Rattle.model.specs.declared.Walk.TheVariants.{On}
 use Rattle.model.specs.Image.{onward, clause, clauses}
 use Rattle.model.specs.Rules.{Clause, Rules}
 use Rattle.model.specs.Encoding.{Words, Each, encode_clause, WellFormedClause}
 use Rattle.model.specs.Decoding.{decode_clause, decode_clauses, clause_next}
 use Rattle.meaning.specs.Stands.{Stands}
 use Rattle.meaning.proofs.Stands.{stands-append, stands-left, stands-right}
-use Rattle.meaning.proofs.Walks.{onward-passed}
+use Rattle.meaning.proofs.Walks.{onward-passed, same_place}
 use Rattle.meaning.proofs.Goals.{Declares}
 use Rattle.meaning.proofs.Clauses.{clause-here, clause-decode, clause-complete, clause-sound}
 
@@ -30,7 +29,7 @@ module _ {image : List ℕ} {program : Rules} (known : Declares image program) (
 
   -- the walk finds no fault where the encoding of well-formed clauses stands
   pub clauses-complete : (all : List Clause) (at : ℕ) → Each (WellFormedClause program head_arity) all → Stands image at (flat_map encode_clause all)
-      → clauses (length all) image head_arity at 0 ≡ On (at + length (flat_map encode_clause all)) 0
+      → clauses (length all) image head_arity at 0 ≡ Ok (at + length (flat_map encode_clause all), 0)
   unfolding clauses flat_map
   clauses-complete [] at good h = rw add-zero refl
   clauses-complete (one ∷ all) at good h =
@@ -38,7 +37,7 @@ module _ {image : List ℕ} {program : Rules} (known : Declares image program) (
       let rest = clauses-complete all (at + length (encode_clause one)) good.1 (stands-right image (encode_clause one) (flat_map encode_clause all) at h) in
       let e : at + length (encode_clause one) + length (flat_map encode_clause all) ≡ at + length (encode_clause one ++ flat_map encode_clause all) =
       omega (arith, length-append (encode_clause one) (flat_map encode_clause all)) in
-      ap (onward (clauses (length all) image head_arity)) first ∙ rest ∙ ap (λ (n : ℕ). On n 0) e
+      ap (onward (clauses (length all) image head_arity)) first ∙ rest ∙ ap (λ (n : ℕ). Ok (n, 0)) e
 
   pub clauses-decode : (all : List Clause) (at : ℕ) → Each (WellFormedClause program head_arity) all → Stands image at (flat_map encode_clause all)
       → decode_clauses (length all) image head_arity at ≡ all
@@ -57,12 +56,13 @@ module _ {image : List ℕ} {program : Rules} (known : Declares image program) (
     pub counted : after ≡ 0
     pub good : Each (WellFormedClause program head_arity) all
 
-  pub clauses-sound : Words image → (count at : ℕ) {end after : ℕ} → clauses count image head_arity at 0 ≡ On end after
+  pub clauses-sound : Words image → (count at : ℕ) {end after : ℕ} → clauses count image head_arity at 0 ≡ Ok (end, after)
       → ClausesStand (decode_clauses count image head_arity at) at end after
   unfolding clauses decode_clauses flat_map
   clauses-sound small zero at {end} {after} e =
-      let x : end ≡ at = cc in
-      let y : after ≡ 0 = cc in
+      let s = same_place e in
+      let x : end ≡ at = s.0 in
+      let y : after ≡ 0 = s.1 in
       record { stands = tt; ends = x ∙ sym (add-zero at); counted = y; good = tt }
   clauses-sound small (suc count) at e =
       let p = onward-passed (clauses count image head_arity) (clause image image 0 head_arity at) e in

@@ -1,12 +1,11 @@
 -- Clauses: the walk over one finds no fault exactly where the encoding of a well-formed clause stands, and decoding gives it back. Document 01, "Rule image", CLAUSE, faults 6, 8, 9, 10, 15 and 16. Assumes nothing.
 use Rattle.std.specs.Prelude.{◌≡◌}
 use Rattle.std.proofs.Math.Path.{sym, ap}
-use Rattle.std.proofs.Common.{◌∙◌}
+use Rattle.std.proofs.Common.{◌∙◌, Ok}
 use mathlib.Core.List.{List, ◌++◌, map, flat_map}
 use Prim.Native.Nat.{ℕ, suc, ◌+◌, ◌≤◌, ◌<◌}
 use native.Mathlib.Omega.{arith}
 use Rattle.std.proofs.Math.ListN.{length, get_or, length-map}
-use Rattle.model.specs.declared.Walk.TheVariants.{On}
 use Rattle.model.specs.Fields.{variables, goal_count, clause_length}
 use Rattle.model.specs.Image.{onward, arguments, goals, clause_word, clause_end, clause}
 use Rattle.model.specs.Rules.{Clause, Rules}
@@ -71,12 +70,12 @@ module _ {image : List ℕ} {program : Rules} (known : Declares image program) (
 
     -- the walk finds no fault where the encoding of a well-formed clause stands
     pub clause-complete : (one : Clause) (fewest at : ℕ) → WellFormedClause program head_arity one → fewest ≤ length one.goals → Stands words at (encode_clause one)
-        → clause image words fewest head_arity at ≡ On (at + length (encode_clause one)) 0
+        → clause image words fewest head_arity at ≡ Ok (at + length (encode_clause one), 0)
     unfolding clause
     clause-complete one fewest at good enough h =
         let f = clause-here one at good h in
         let few : one.variables ≤ 64 = omega (arith, good.variables) in
-        let heads : arguments head_arity words one.variables (at + 1) 0 ≡ On (at + 1 + head_arity) (seen_after 0 one.head) =
+        let heads : arguments head_arity words one.variables (at + 1) 0 ≡ Ok (at + 1 + head_arity, seen_after 0 one.head) =
         ap (λ (n : ℕ). arguments n words one.variables (at + 1) 0) (sym good.heads) ∙ arguments-complete one.head few (clause-heads one at good h) in
         let rest = goals-complete known words one.goals few good.calls (clause-goals one at good h) in
         let first = clause_word-complete words fewest at f (clause-there words one at h) good.variables good.goal_count enough in
@@ -121,7 +120,7 @@ module _ {image : List ℕ} {program : Rules} (known : Declares image program) (
           enough = rw count w.enough;
         }
 
-    pub clause-sound : Words words → (fewest at : ℕ) {end after : ℕ} → clause image words fewest head_arity at ≡ On end after → ClauseStands fewest at end after
+    pub clause-sound : Words words → (fewest at : ℕ) {end after : ℕ} → clause image words fewest head_arity at ≡ Ok (end, after) → ClauseStands fewest at end after
     unfolding clause
     clause-sound small fewest at e =
         let word = get_or words at 0 in

@@ -1,7 +1,7 @@
 -- Goals: the walk over them finds no fault exactly where the encoding of well-formed goals stands, and decoding gives them back. Document 01, "Rule image", GOAL, faults 4, 6, 13 and 14. Assumes nothing.
 use Rattle.std.specs.Prelude.{◌≡◌, eqb, ltb, get_or}
 use Rattle.std.proofs.Math.Path.{refl, sym, ap, ap₂}
-use Rattle.std.proofs.Common.{◌∙◌}
+use Rattle.std.proofs.Common.{◌∙◌, Ok}
 use mathlib.Core.List.{List, [], ◌∷◌, map, flat_map}
 use Prim.Native.Nat.{ℕ, zero, suc, ◌+◌, ◌≤◌, ◌<◌}
 use native.Mathlib.Omega.{arith}
@@ -11,8 +11,7 @@ use Rattle.std.proofs.lemmas.List.{length-map}
 use borrow.Author.Tests.{eqb-true, ltb-true, lt-ltb}
 use Rattle.model.specs.declared.Kind.TheVariants.{Goal as GoalWord}
 use Rattle.model.specs.declared.Fault.TheVariants.{ZeroField, EndsEarly, GoalExpected, NoSuchPredicate}
-use Rattle.model.specs.declared.Walk.{Walk}
-use Rattle.model.specs.declared.Walk.TheVariants.{On}
+use Rattle.model.specs.Answers.{Walk, met}
 use Rattle.model.specs.Fields.{widths_of, total, below, field, predicate_count, arity, op, goal_predicate, goal_zero}
 use Rattle.model.specs.Image.{onward, predicate_word, arguments, goal_word, goal, goals}
 use Rattle.model.specs.Rules.{Argument, Goal, call, Rules}
@@ -21,7 +20,7 @@ use Rattle.model.specs.Decoding.{decode_args, goal_next, decode_goal, decode_goa
 use Rattle.words.specs.FieldLaws.{fields_from}
 use Rattle.words.proofs.FieldLaws.{field-join, join-field}
 use Rattle.meaning.specs.Stands.{Stands}
-use Rattle.meaning.proofs.Walks.{cond-held, onward-passed}
+use Rattle.meaning.proofs.Walks.{cond-held, onward-passed, same_place}
 use Rattle.meaning.specs.Reading.{Read}
 use Rattle.meaning.proofs.Reading.{read-append, read_left, read_right}
 use Rattle.meaning.proofs.Arguments.{arguments-complete, arguments-decode, arguments_sound, length-decode_args}
@@ -58,21 +57,21 @@ pub record GoalFound (image words : List ℕ) (at seen end after : ℕ) : Type 0
   pub ends : end ≡ at + 1
   pub counted : after ≡ seen
 
-pub goal_word-sound : (image words : List ℕ) (at seen : ℕ) {end after : ℕ} → goal_word image words at seen ≡ On end after → GoalFound image words at seen end after
+pub goal_word-sound : (image words : List ℕ) (at seen : ℕ) {end after : ℕ} → goal_word image words at seen ≡ Ok (end, after) → GoalFound image words at seen end after
 unfolding goal_word
 goal_word-sound image words at seen {end} {after} e =
     let there = cond-held (ltb at (length words)) EndsEarly (length words) e in
     let nine = cond-held (eqb (op (get_or words at 0)) 9) GoalExpected at there.1 in
     let zeros = cond-held (eqb (goal_zero (get_or words at 0)) 0) ZeroField at nine.1 in
     let known = cond-held (ltb (goal_predicate (get_or words at 0)) (predicate_count (get_or image 0 0))) NoSuchPredicate at zeros.1 in
-    let t = known.1 in
+    let s = same_place known.1 in
     record {
       there = ltb-true at (length words) there.0;
       is_op = eqb-true (op (get_or words at 0)) 9 nine.0;
       is_zero = eqb-true (goal_zero (get_or words at 0)) 0 zeros.0;
       exists = ltb-true (goal_predicate (get_or words at 0)) (predicate_count (get_or image 0 0)) known.0;
-      ends = cc;
-      counted = cc;
+      ends = s.0;
+      counted = s.1;
     }
 
 -- the place after a goal is where its encoding ends
@@ -92,12 +91,12 @@ module _ {image : List ℕ} {program : Rules} (known : Declares image program) (
       (f, ap (λ (k : ℕ). arity (predicate_word image k)) f.is_predicate ∙ known.arities predicate good.0 ∙ sym good.1)
 
   pub goal-complete : (one : Goal) {declared at seen end after : ℕ} → declared ≤ 64 → WellFormedGoal program one → Read words (encode_goal one) (goal_args one) declared at seen end after
-      → goal image words declared at seen ≡ On end after
+      → goal image words declared at seen ≡ Ok (end, after)
   unfolding goal goal_word encode_goal goal_args seen_after
   goal-complete (call predicate args) {declared} {at} {seen} few good r =
       let f = goal-here predicate args at good r.stands in
       let rest = read_right (encode_call predicate ∷ []) (map encode_arg args) [] args r in
-      let w : goal_word image words at seen ≡ On (at + 1) seen =
+      let w : goal_word image words at seen ≡ Ok (at + 1, seen) =
       rw (lt-ltb at (length words) r.stands.0, f.0.is_op, f.0.is_zero, f.0.is_predicate, known.count, lt-ltb predicate (length program) good.0) refl in
       ap₂ (λ (n : ℕ) (walk : Walk). onward (arguments n words declared) walk) f.1 w ∙ arguments-complete args few rest
 
@@ -109,7 +108,7 @@ module _ {image : List ℕ} {program : Rules} (known : Declares image program) (
       let rest = read_right (encode_call predicate ∷ []) (map encode_arg args) [] args r in
       ap₂ (λ (k : ℕ) (l : List Argument). call k l) f.0.is_predicate (ap (λ (n : ℕ). decode_args n words (at + 1)) f.1 ∙ arguments-decode args few rest)
 
-  pub goal-sound : Words words → (declared at seen : ℕ) {end after : ℕ} → seen ≤ declared → goal image words declared at seen ≡ On end after
+  pub goal-sound : Words words → (declared at seen : ℕ) {end after : ℕ} → seen ≤ declared → goal image words declared at seen ≡ Ok (end, after)
       → Read words (encode_goal (decode_goal image words at)) (goal_args (decode_goal image words at)) declared at seen end after × WellFormedGoal program (decode_goal image words at)
   unfolding goal decode_goal encode_goal goal_args seen_after
   goal-sound small declared at seen few e =
@@ -127,7 +126,7 @@ module _ {image : List ℕ} {program : Rules} (known : Declares image program) (
 
   -- the walk finds no fault where the encoding of well-formed goals stands
   pub goals-complete : (all : List Goal) {declared at seen end after : ℕ} → declared ≤ 64 → Each (WellFormedGoal program) all
-      → Read words (flat_map encode_goal all) (flat_map goal_args all) declared at seen end after → goals (length all) image words declared at seen ≡ On end after
+      → Read words (flat_map encode_goal all) (flat_map goal_args all) declared at seen end after → goals (length all) image words declared at seen ≡ Ok (end, after)
   unfolding goals flat_map seen_after
   goals-complete [] {at = at} few good r = let e = r.ends in let x = add-zero at in let k = r.counted in cc
   goals-complete (one ∷ all) {declared} {at} {seen} few good r =
@@ -147,13 +146,14 @@ module _ {image : List ℕ} {program : Rules} (known : Declares image program) (
       ap₂ (λ (g : Goal) (l : List Goal). g ∷ l) same (ap (decode_goals (length all) image words) next ∙ goals-decode all few good.1 rest)
 
   -- where the walk found none, the encoding stands of the goals that the words decode to, and they are well formed
-  pub goals-sound : (count : ℕ) → Words words → (declared at seen : ℕ) {end after : ℕ} → seen ≤ declared → goals count image words declared at seen ≡ On end after
+  pub goals-sound : (count : ℕ) → Words words → (declared at seen : ℕ) {end after : ℕ} → seen ≤ declared → goals count image words declared at seen ≡ Ok (end, after)
       → Read words (flat_map encode_goal (decode_goals count image words at)) (flat_map goal_args (decode_goals count image words at)) declared at seen end after
       × Each (WellFormedGoal program) (decode_goals count image words at)
   unfolding goals decode_goals flat_map seen_after
   goals-sound zero small declared at seen {end} {after} few e =
-      let x : end ≡ at = cc in
-      let y : after ≡ seen = cc in
+      let s = same_place e in
+      let x : end ≡ at = s.0 in
+      let y : after ≡ seen = s.1 in
       (record { stands = tt; ends = x ∙ sym (add-zero at); numbered = tt; counted = y; kept = omega arith }, tt)
   goals-sound (suc count) small declared at seen few e =
       let p = onward-passed (goals count image words declared) (goal image words declared at seen) e in

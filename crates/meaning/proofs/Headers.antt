@@ -1,11 +1,11 @@
 -- The header, and what header and predicate words say of the rule set: how many predicates, and their arities. Document 01, "Rule image", header, faults 1 to 6. Assumes nothing.
 use Rattle.std.specs.Prelude.{◌≡◌, refl, ℕ, zero, suc, ◌+◌, ◌≤◌, ◌<◌, eqb, leb, length, get_or}
-use Rattle.std.proofs.Common.{sym, ap, arith, add-zero, zero-add, length-append, eqb-true, eq-eqb, ne_eqb, leb-true, le-leb}
+use Rattle.std.proofs.Common.{sym, ap, arith, add-zero, zero-add, length-append, eqb-true, eq-eqb, ne_eqb, leb-true, le-leb, Ok}
 use mathlib.Core.List.{List, [], ◌∷◌, flat_map}
 use Rattle.std.proofs.lemmas.Bool.{eqb-false}
 use Rattle.model.specs.declared.Kind.TheVariants.{Header, Predicate as PredicateWord}
 use Rattle.model.specs.declared.Fault.TheVariants.{EmptyImage, WrongEdition, NoPredicates, ZeroField, LengthField, EndsEarly}
-use Rattle.model.specs.declared.Walk.TheVariants.{On}
+use Rattle.model.specs.Answers.{met}
 use Rattle.model.specs.Fields.{widths_of, total, below, field, join, edition, predicate_count, header_zero, image_length, arity}
 use Rattle.model.specs.Image.{predicate_word, header}
 use Rattle.model.specs.Rules.{Rules}
@@ -14,7 +14,7 @@ use Rattle.model.specs.Decoding.{decode, decode_predicate, decode_predicates}
 use Rattle.words.specs.FieldLaws.{fields_from}
 use Rattle.words.proofs.FieldLaws.{field-join, field_lt, join-field}
 use Rattle.meaning.specs.Stands.{Stands}
-use Rattle.meaning.proofs.Walks.{cond-held, cond-failed}
+use Rattle.meaning.proofs.Walks.{cond-held, cond-failed, same_place}
 use Rattle.meaning.proofs.Goals.{Declares}
 use Rattle.meaning.proofs.Predicates.{predicate-fields}
 
@@ -36,7 +36,7 @@ unfolding widths_of field below total fields_from
 header-word word h e z = sym (rw (e, z) at (join-field (widths_of Header) word h))
 
 -- the walk finds no fault at a header with these fields and as many predicate words as it says
-pub header-complete : (image : List ℕ) (count : ℕ) → HeaderFields (get_or image 0 0) count (length image) → 1 ≤ count → 1 + count ≤ length image → header image ≡ On (1 + count) 0
+pub header-complete : (image : List ℕ) (count : ℕ) → HeaderFields (get_or image 0 0) count (length image) → 1 ≤ count → 1 + count ≤ length image → header image ≡ Ok (1 + count, 0)
 unfolding header
 header-complete image count f h l =
     rw (
@@ -58,7 +58,7 @@ pub record HeaderFound (image : List ℕ) (end after : ℕ) : Type 0 where
   pub ends : end ≡ 1 + predicate_count (get_or image 0 0)
   pub counted : after ≡ 0
 
-pub header-sound : (image : List ℕ) {end after : ℕ} → header image ≡ On end after → HeaderFound image end after
+pub header-sound : (image : List ℕ) {end after : ℕ} → header image ≡ Ok (end, after) → HeaderFound image end after
 unfolding header
 header-sound image e =
     let word = get_or image 0 0 in
@@ -69,7 +69,7 @@ header-sound image e =
     let size = cond-held (eqb (image_length word) (length image)) LengthField 0 zeros.1 in
     let words = cond-held (leb (1 + predicate_count word) (length image)) EndsEarly (length image) size.1 in
     let none = eqb-false (predicate_count word) 0 some.0 in
-    let t = words.1 in
+    let s = same_place words.1 in
     record {
       fields = record {
         is_edition = eqb-true (edition word) 1 one.0;
@@ -79,8 +79,8 @@ header-sound image e =
       };
       nonempty = omega arith;
       words = leb-true (1 + predicate_count word) (length image) words.0;
-      ends = cc;
-      counted = cc;
+      ends = s.0;
+      counted = s.1;
     }
 
 -- arities of well-formed predicates have four bits

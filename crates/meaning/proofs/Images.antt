@@ -1,15 +1,13 @@
 -- A whole image: the check finds it legal exactly if it is the encoding of a well-formed rule set, the one that it decodes to. Document 01, "Rule image". Assumes nothing.
 use Rattle.std.specs.Prelude.{◌≡◌, refl, ℕ, suc, ◌+◌, ◌≤◌, ◌<◌, ltb, length, get_or}
-use Rattle.std.proofs.Common.{sym, ap, ◌∙◌, arith, zero-add, length-append, ltb-false, le-ltb}
+use Rattle.std.proofs.Common.{sym, ap, ◌∙◌, arith, zero-add, length-append, ltb-false, le-ltb, Ok, Err}
 use mathlib.Core.List.{List, [], ◌∷◌, flat_map}
 use Rattle.model.specs.declared.Kind.TheVariants.{Header}
 use Rattle.model.specs.declared.Fault.{Fault}
 use Rattle.model.specs.declared.Fault.TheVariants.{LeftOver}
-use Rattle.model.specs.declared.Walk.{Walk}
-use Rattle.model.specs.declared.Walk.TheVariants.{On, Met}
+use Rattle.model.specs.Answers.{Walk, met}
 use Rattle.model.specs.declared.Refusal.{Refusal}
 use Rattle.model.specs.declared.Refusal.TheVariants.{Image}
-use Rattle.model.specs.declared.Verdict.TheVariants.{Legal}
 use Rattle.model.specs.Fields.{widths_of, join, predicate_count, image_length}
 use Rattle.model.specs.Image.{onward, predicates, header, ending, image_walk, verdict, check_image}
 use Rattle.model.specs.Rules.{Rules}
@@ -65,28 +63,28 @@ declares-encoded image program good parts = record {
 }
 
 -- a walk that met no fault is a legal verdict, and no other is
-pub verdict-legal : (whose : Fault → Refusal) (walk : Walk) → verdict whose walk ≡ Legal → (end : ℕ) × (after : ℕ) × (walk ≡ On end after)
-verdict-legal whose (On at seen) e = (at, seen, refl)
-verdict-legal whose (Met fault at) e = let z : ◌≡◌ {A = ℕ} 0 1 = cc in absurd (omega arith)
+pub verdict-legal : (whose : Fault → Refusal) (walk : Walk) → verdict whose walk ≡ Ok tt → (end : ℕ) × (after : ℕ) × (walk ≡ Ok (end, after))
+verdict-legal whose (Ok (at, seen)) e = (at, seen, refl)
+verdict-legal whose (Err stop) e = let z : ◌≡◌ {A = ℕ} 0 1 = cc in absurd (omega arith)
 
 -- at the end no word is left over
-pub ending-complete : (words : List ℕ) (at : ℕ) → at ≡ length words → ending words at 0 ≡ On at 0
+pub ending-complete : (words : List ℕ) (at : ℕ) → at ≡ length words → ending words at 0 ≡ Ok (at, 0)
 unfolding ending
 ending-complete words at e = rw (le-ltb at (length words) (omega arith)) refl
 
-pub ending-sound : (words : List ℕ) (at seen : ℕ) {end after : ℕ} → ending words at seen ≡ On end after → length words ≤ at
+pub ending-sound : (words : List ℕ) (at seen : ℕ) {end after : ℕ} → ending words at seen ≡ Ok (end, after) → length words ≤ at
 unfolding ending
 ending-sound words at seen e = ltb-false at (length words) (cond-failed (ltb at (length words)) LeftOver at e).0
 
 -- the encoding of a well-formed rule set is legal
-pub image-complete : (program : Rules) → WellFormed program → check_image (encode program) ≡ Legal
+pub image-complete : (program : Rules) → WellFormed program → check_image (encode program) ≡ Ok tt
 unfolding check_image image_walk encoded_length
 image-complete program good =
     let image = encode program in
     let parts = encode-parts image program good (stands-behind [] image) in
     let known = declares-encoded image program good parts in
     let size = length-encode program in
-    let first : header image ≡ On (1 + length program) 0 = header-complete image (length program) (rw size parts.first) good.nonempty (omega arith) in
+    let first : header image ≡ Ok (1 + length program, 0) = header-complete image (length program) (rw size parts.first) good.nonempty (omega arith) in
     let all = predicates-complete known program 0 (1 + length program) good.predicates (encode-fits program good) parts.words parts.clauses in
     let last = ending-complete image (1 + length program + length (flat_map encode_clauses program)) (sym size) in
     rw (parts.first.is_count, first, all, last) refl
@@ -126,7 +124,7 @@ image-joined {image} {program} known small h e all l =
     )
 
 -- a legal image is the encoding of the rule set that it decodes to, and that is well formed
-pub image-sound : (image : List ℕ) → Words image → check_image image ≡ Legal → (encode (decode image) ≡ image) × WellFormed (decode image)
+pub image-sound : (image : List ℕ) → Words image → check_image image ≡ Ok tt → (encode (decode image) ≡ image) × WellFormed (decode image)
 unfolding check_image image_walk decode
 image-sound image small e =
     let legal = verdict-legal Image (image_walk image) e in

@@ -2,7 +2,7 @@
 -- Document 01, "Rule image", predicate words, fault 7. Assumes nothing.
 use Rattle.std.specs.Prelude.{◌≡◌, Bool, true, false, eqb}
 use Rattle.std.proofs.Math.Path.{refl, sym, ap, ap₂}
-use Rattle.std.proofs.Common.{◌∙◌}
+use Rattle.std.proofs.Common.{◌∙◌, Ok}
 use mathlib.Core.List.{List, [], ◌∷◌, ◌++◌, flat_map}
 use Prim.Native.Nat.{ℕ, zero, suc, ◌+◌, ◌≤◌, ◌<◌}
 use native.Mathlib.Omega.{arith}
@@ -11,7 +11,6 @@ use Rattle.std.proofs.Math.ListN.{length, length-append}
 use borrow.Author.Tests.{eqb-true, eq-eqb}
 use Rattle.model.specs.declared.Kind.TheVariants.{Predicate as PredicateWord}
 use Rattle.model.specs.declared.Fault.TheVariants.{FirstClause}
-use Rattle.model.specs.declared.Walk.TheVariants.{On}
 use Rattle.model.specs.Fields.{widths_of, total, below, field, join, arity, sequential, clause_count, first_clause}
 use Rattle.model.specs.Image.{onward, predicate_word, predicate, predicates}
 use Rattle.model.specs.Rules.{Predicate, Rules}
@@ -21,7 +20,7 @@ use Rattle.words.specs.FieldLaws.{fields_from}
 use Rattle.words.proofs.FieldLaws.{field-join, field_lt, join-field}
 use Rattle.meaning.specs.Stands.{Stands}
 use Rattle.meaning.proofs.Stands.{stands-append, stands-left, stands-right}
-use Rattle.meaning.proofs.Walks.{cond-held, onward-passed}
+use Rattle.meaning.proofs.Walks.{cond-held, onward-passed, same_place}
 use Rattle.meaning.proofs.Goals.{Declares}
 use Rattle.meaning.proofs.ClauseLists.{length-decode_clauses, clauses-complete, clauses-decode, clauses-sound}
 use Rattle.meaning.specs.Predicates.{PredicateFields}
@@ -65,7 +64,7 @@ predicate-word image number at h e =
 
 module _ {image : List ℕ} {program : Rules} (known : Declares image program) where
   pub predicate-complete : (one : Predicate) (number at : ℕ) → WellFormedPred program one → at ≤ 131071 → predicate_word image number ≡ encode_predicate at one
-      → Stands image at (encode_clauses one) → predicate image number at 0 ≡ On (at + length (encode_clauses one)) 0
+      → Stands image at (encode_clauses one) → predicate image number at 0 ≡ Ok (at + length (encode_clauses one), 0)
   unfolding predicate encode_clauses
   predicate-complete one number at good h word stands =
       let f : PredicateFields (predicate_word image number) one at = rw word (predicate-fields program one at good h) in
@@ -82,7 +81,7 @@ module _ {image : List ℕ} {program : Rules} (known : Declares image program) w
 
   -- the walk finds no fault where the encoding of well-formed predicates stands: their words from predicate `number` on, their clauses at `at`
   pub predicates-complete : (all : Rules) (number at : ℕ) → Each (WellFormedPred program) all → at + length (flat_map encode_clauses all) ≤ 131071
-      → Stands image (1 + number) (encode_predicates at all) → Stands image at (flat_map encode_clauses all) → predicates (length all) image number at 0 ≡ On (at + length (flat_map encode_clauses all)) 0
+      → Stands image (1 + number) (encode_predicates at all) → Stands image at (flat_map encode_clauses all) → predicates (length all) image number at 0 ≡ Ok (at + length (flat_map encode_clauses all), 0)
   unfolding predicates encode_predicates flat_map
   predicates-complete [] number at good h words stands = rw add-zero refl
   predicates-complete (one ∷ all) number at good h words stands =
@@ -93,7 +92,7 @@ module _ {image : List ℕ} {program : Rules} (known : Declares image program) w
       predicates-complete all (suc number) (at + length (encode_clauses one)) good.1 (omega arith) (rw shift at words.2)
       (stands-right image (encode_clauses one) (flat_map encode_clauses all) at stands) in
       let e : at + length (encode_clauses one) + length (flat_map encode_clauses all) ≡ at + length (encode_clauses one ++ flat_map encode_clauses all) = omega arith in
-      ap (onward (predicates (length all) image (suc number))) first ∙ rest ∙ ap (λ (n : ℕ). On n 0) e
+      ap (onward (predicates (length all) image (suc number))) first ∙ rest ∙ ap (λ (n : ℕ). Ok (n, 0)) e
 
   pub predicates-decode : (all : Rules) (number at : ℕ) → Each (WellFormedPred program) all → at + length (flat_map encode_clauses all) ≤ 131071
       → Stands image (1 + number) (encode_predicates at all) → Stands image at (flat_map encode_clauses all) → decode_predicates (length all) image number ≡ all
@@ -115,7 +114,7 @@ module _ {image : List ℕ} {program : Rules} (known : Declares image program) w
     pub counted : after ≡ 0
     pub good : WellFormedPred program one
 
-  pub predicate-sound : Words image → (number at : ℕ) {end after : ℕ} → predicate image number at 0 ≡ On end after
+  pub predicate-sound : Words image → (number at : ℕ) {end after : ℕ} → predicate image number at 0 ≡ Ok (end, after)
       → PredicateStands (decode_predicate image number) number at end after
   unfolding predicate encode_clauses decode_predicate widths_of
   predicate-sound small number at e =
@@ -144,12 +143,13 @@ module _ {image : List ℕ} {program : Rules} (known : Declares image program) w
     pub counted : after ≡ 0
     pub good : Each (WellFormedPred program) all
 
-  pub predicates-sound : Words image → (count number at : ℕ) {end after : ℕ} → 1 + number + count ≤ length image → predicates count image number at 0 ≡ On end after
+  pub predicates-sound : Words image → (count number at : ℕ) {end after : ℕ} → 1 + number + count ≤ length image → predicates count image number at 0 ≡ Ok (end, after)
       → PredicatesStand (decode_predicates count image number) number at end after
   unfolding predicates decode_predicates flat_map encode_predicates
   predicates-sound small zero number at {end} {after} l e =
-      let x : end ≡ at = cc in
-      let y : after ≡ 0 = cc in
+      let s = same_place e in
+      let x : end ≡ at = s.0 in
+      let y : after ≡ 0 = s.1 in
       record { words = tt; stands = tt; ends = x ∙ sym (add-zero at); counted = y; good = tt }
   predicates-sound small (suc count) number at l e =
       let p = onward-passed (predicates count image (suc number)) (predicate image number at 0) e in

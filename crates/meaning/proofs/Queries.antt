@@ -1,9 +1,8 @@
 -- A query against a legal image: the check finds it legal exactly if it is the encoding of a well-formed query, the one that it decodes to. Document 01, "Rule image", "A query is one clause of arity 0". Assumes nothing.
 use Rattle.std.specs.Prelude.{◌≡◌, refl, List, [], ℕ, ◌+◌, length}
-use Rattle.std.proofs.Common.{arith, zero-add}
+use Rattle.std.proofs.Common.{arith, zero-add, Ok, Err}
 use Rattle.model.specs.declared.Refusal.TheVariants.{Query}
-use Rattle.model.specs.declared.Verdict.{Verdict}
-use Rattle.model.specs.declared.Verdict.TheVariants.{Legal, Refused}
+use Rattle.model.specs.Answers.{Verdict}
 use Rattle.model.specs.Image.{clause, ending, query_walk, verdict, if_legal, check_image, check_query}
 use Rattle.model.specs.Rules.{Clause}
 use Rattle.model.specs.Encoding.{Words, encode_clause, encode_query, WellFormedQuery}
@@ -15,16 +14,16 @@ use Rattle.meaning.proofs.Headers.{declares-decoded}
 use Rattle.meaning.proofs.Images.{verdict-legal, ending-complete, ending-sound}
 
 -- the image is judged first
-if_legal-both : (first next : Verdict) → if_legal first next ≡ Legal → (first ≡ Legal) × (next ≡ Legal)
-if_legal-both Legal next e = (refl, e)
-if_legal-both (Refused refusal at) next e = let z : ◌≡◌ {A = ℕ} 0 1 = cc in absurd (omega arith)
+if_legal-both : (first next : Verdict) → if_legal first next ≡ Ok tt → (first ≡ Ok tt) × (next ≡ Ok tt)
+if_legal-both (Ok u) next e = (refl, e)
+if_legal-both (Err stop) next e = let z : ◌≡◌ {A = ℕ} 0 1 = cc in absurd (omega arith)
 
-pub query-image : (image query : List ℕ) → check_query image query ≡ Legal → check_image image ≡ Legal
+pub query-image : (image query : List ℕ) → check_query image query ≡ Ok tt → check_image image ≡ Ok tt
 unfolding check_query
 query-image image query e = (if_legal-both (check_image image) (verdict Query (query_walk image query)) e).0
 
 -- the encoding of a well-formed query is legal
-pub query-complete : (image : List ℕ) (query : Clause) → check_image image ≡ Legal → WellFormedQuery (decode image) query → check_query image (encode_query query) ≡ Legal
+pub query-complete : (image : List ℕ) (query : Clause) → check_image image ≡ Ok tt → WellFormedQuery (decode image) query → check_query image (encode_query query) ≡ Ok tt
 unfolding check_query query_walk encode_query
 query-complete image query legal good =
     let words = encode_clause query in
@@ -38,7 +37,7 @@ unfolding decode_query encode_query
 query-decode image query good = clause-decode (declares-decoded image) 0 (omega arith) (encode_clause query) query 0 good.clause (stands-behind [] (encode_clause query))
 
 -- a legal query is the encoding of the query that it decodes to, and that is well formed
-pub query-sound : (image query : List ℕ) → Words query → check_query image query ≡ Legal
+pub query-sound : (image query : List ℕ) → Words query → check_query image query ≡ Ok tt
     → (encode_query (decode_query image query) ≡ query) × WellFormedQuery (decode image) (decode_query image query)
 unfolding check_query query_walk decode_query encode_query
 query-sound image query small e =

@@ -2,7 +2,7 @@
 use Rattle.std.specs.Prelude.{cond, List, [], ◌∷◌, ℕ, zero, suc, ◌+◌, ◌*◌, ◌/◌, ◌%◌, min, eqb, length, get_or}
 use Rattle.model.specs.declared.Fault.TheVariants.{EndsEarly}
 use Rattle.model.specs.declared.Refusal.TheVariants.{Image}
-use Rattle.model.specs.declared.Verdict.TheVariants.{Refused}
+use Rattle.model.specs.Answers.{refused_at}
 use Rattle.model.specs.Numbers.{verdict_number}
 use Rattle.model.specs.Image.{check_image}
 
@@ -24,4 +24,4 @@ unfoldable pub check_bytes : List ℕ → ℕ
 check_bytes bytes =
     cond (eqb (length bytes % 4) 0)
     (verdict_number (check_image (words_of_bytes bytes)))
-    (verdict_number (Refused (Image EndsEarly) (min (length bytes / 4) 131072)))
+    (verdict_number (refused_at (Image EndsEarly) (min (length bytes / 4) 131072)))

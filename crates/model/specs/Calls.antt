@@ -1,18 +1,9 @@
 -- The calls with the order of their refusals: document 01, "Refused calls": "20 a lent slice has the wrong length; image; query; 21 damaged; 22 worker above 3;
 -- then 23 (move: slot above 63 or free), 24, 25 (read: not at a node without goals), 26 (read: room below the variable count)".
 -- A refusal and an outcome are kept apart: their numbers overlap. Full at a step is the outcome Full, and changes nothing. Assumes nothing.
-use Rattle.std.specs.Prelude.{Bool, cond, ◌&&◌, List, ◌++◌, ℕ, eqb, ltb, leb, length, get_or, drop}
+use Rattle.std.specs.Prelude.{Bool, cond, ◌&&◌, List, ◌++◌, ℕ, eqb, ltb, leb, length, get_or, drop, Ok, Err}
 use Rattle.model.specs.declared.Refusal.TheVariants.{SliceLength, Damaged, NoWorker, NoSlot, NoAnswer, Room}
-use Rattle.model.specs.declared.Verdict.{Verdict}
-use Rattle.model.specs.declared.Verdict.TheVariants.{Legal, Refused}
-use Rattle.model.specs.declared.StepAnswer.{StepAnswer}
-use Rattle.model.specs.declared.StepAnswer.TheVariants.{Done as DoneStep, Refused as RefusedStep}
-use Rattle.model.specs.declared.RunAnswer.{RunAnswer}
-use Rattle.model.specs.declared.RunAnswer.TheVariants.{Done as DoneRun, Refused as RefusedRun}
-use Rattle.model.specs.declared.MoveAnswer.{MoveAnswer}
-use Rattle.model.specs.declared.MoveAnswer.TheVariants.{Done as DoneMove, Refused as RefusedMove}
-use Rattle.model.specs.declared.Written.{Written}
-use Rattle.model.specs.declared.Written.TheVariants.{Done as DoneWriting, Refused as RefusedRoom}
+use Rattle.model.specs.Answers.{MoveAnswer, RunAnswer, StepAnswer, Verdict, Written, refused_at}
 use Rattle.model.specs.Image.{if_legal, check_query}
 use Rattle.model.specs.Memory.{Memory, used, has_goal}
 use Rattle.model.specs.Fields.{variables}
@@ -27,12 +18,12 @@ lengths_right m =
 
 -- 20, image, query
 unfoldable pub load_refusal : List ℕ → List ℕ → Memory → Verdict
-load_refusal image query m = cond (lengths_right m) (check_query image query) (Refused SliceLength 0)
+load_refusal image query m = cond (lengths_right m) (check_query image query) (refused_at SliceLength 0)
 
 -- 20, image, query, 21, 22
 unfoldable pub call_refusal : List ℕ → List ℕ → Memory → ℕ → Verdict
 call_refusal image query m worker =
-    if_legal (load_refusal image query m) (cond (sound image query m) (cond (ltb worker 4) Legal (Refused NoWorker 0)) (Refused Damaged 0))
+    if_legal (load_refusal image query m) (cond (sound image query m) (cond (ltb worker 4) (Ok tt) (refused_at NoWorker 0)) (refused_at Damaged 0))
 
 -- a call's answer and the memory after it
 pub record Loaded : Type 0 where
@@ -44,8 +35,8 @@ loaded_to answer after = record { answer = answer; after = after }
 
 -- "Load stops after the query check and otherwise sets memory afresh"
 unfoldable pub load_if : Verdict → List ℕ → Memory → Loaded
-load_if Legal query m = loaded_to Legal (loaded query)
-load_if (Refused refusal at) query m = loaded_to (Refused refusal at) m
+load_if (Ok u) query m = loaded_to (Ok tt) (loaded query)
+load_if (Err stop) query m = loaded_to (Err stop) m
 
 unfoldable pub load_call : List ℕ → List ℕ → Memory → Loaded
 load_call image query m = load_if (load_refusal image query m) query m
@@ -59,10 +50,10 @@ step_called answer after = record { answer = answer; after = after }
 
 -- "steps and runs return outcome and w's slot"
 unfoldable pub step_if : Verdict → List ℕ → List ℕ → Memory → ℕ → StepCalled
-step_if Legal image query m worker =
+step_if (Ok u) image query m worker =
     let d = step image query (view_of m worker) worker in
-    step_called (DoneStep d.outcome (get_or d.after.workers worker 0)) (with_view m worker d.after)
-step_if (Refused refusal at) image query m worker = step_called (RefusedStep refusal at) m
+    step_called (Ok (d.outcome, get_or d.after.workers worker 0)) (with_view m worker d.after)
+step_if (Err stop) image query m worker = step_called (Err stop) m
 
 unfoldable pub step_call : List ℕ → List ℕ → Memory → ℕ → StepCalled
 step_call image query m worker = step_if (call_refusal image query m worker) image query m worker
@@ -76,10 +67,10 @@ run_called answer after = record { answer = answer; after = after }
 
 -- "runs also the count"
 unfoldable pub run_if : Verdict → List ℕ → List ℕ → Memory → ℕ → ℕ → RunCalled
-run_if Legal image query m worker budget =
+run_if (Ok u) image query m worker budget =
     let r = run image query (view_of m worker) worker budget in
-    run_called (DoneRun r.outcome (get_or r.after.workers worker 0) r.count) (with_view m worker r.after)
-run_if (Refused refusal at) image query m worker budget = run_called (RefusedRun refusal at) m
+    run_called (Ok (r.outcome, get_or r.after.workers worker 0, r.count)) (with_view m worker r.after)
+run_if (Err stop) image query m worker budget = run_called (Err stop) m
 
 unfoldable pub run_call : List ℕ → List ℕ → Memory → ℕ → ℕ → RunCalled
 run_call image query m worker budget = run_if (call_refusal image query m worker) image query m worker budget
@@ -94,11 +85,11 @@ move_called answer after = record { answer = answer; after = after }
 -- 23, "slot above 63 or free"
 unfoldable pub move_refusal : List ℕ → List ℕ → Memory → ℕ → ℕ → Verdict
 move_refusal image query m worker slot =
-    if_legal (call_refusal image query m worker) (cond (ltb slot 64) (cond (eqb (used m.nodes slot) 1) Legal (Refused NoSlot 0)) (Refused NoSlot 0))
+    if_legal (call_refusal image query m worker) (cond (ltb slot 64) (cond (eqb (used m.nodes slot) 1) (Ok tt) (refused_at NoSlot 0)) (refused_at NoSlot 0))
 
 unfoldable pub move_if : Verdict → Memory → ℕ → ℕ → MoveCalled
-move_if Legal m worker slot = let v = move m worker slot in move_called (DoneMove v.passed) v.after
-move_if (Refused refusal at) m worker slot = move_called (RefusedMove refusal at) m
+move_if (Ok u) m worker slot = let v = move m worker slot in move_called (Ok v.passed) v.after
+move_if (Err stop) m worker slot = move_called (Err stop) m
 
 unfoldable pub move_call : List ℕ → List ℕ → Memory → ℕ → ℕ → MoveCalled
 move_call image query m worker slot = move_if (move_refusal image query m worker slot) m worker slot
@@ -114,15 +105,15 @@ read_called answer room = record { answer = answer; room = room }
 unfoldable pub read_refusal : List ℕ → List ℕ → Memory → ℕ → ℕ → Verdict
 read_refusal image query m worker room =
     if_legal (call_refusal image query m worker)
-    (cond (eqb (has_goal m.nodes (get_or m.workers worker 0)) 1) (Refused NoAnswer 0)
-    (cond (leb (variables (get_or query 0 0)) room) Legal (Refused Room 0)))
+    (cond (eqb (has_goal m.nodes (get_or m.workers worker 0)) 1) (refused_at NoAnswer 0)
+    (cond (leb (variables (get_or query 0 0)) room) (Ok tt) (refused_at Room 0)))
 
 -- "return the count of words written; words past it stay"
 unfoldable pub read_if : Verdict → List ℕ → Memory → ℕ → List ℕ → ReadCalled
-read_if Legal query m worker room =
+read_if (Ok u) query m worker room =
     let words = answer query m worker in
-    read_called (DoneWriting (length words)) (words ++ drop (length words) room)
-read_if (Refused refusal at) query m worker room = read_called (RefusedRoom refusal at) room
+    read_called (Ok (length words)) (words ++ drop (length words) room)
+read_if (Err stop) query m worker room = read_called (Err stop) room
 
 unfoldable pub read_call : List ℕ → List ℕ → Memory → ℕ → List ℕ → ReadCalled
 read_call image query m worker room = read_if (read_refusal image query m worker (length room)) query m worker room

@@ -1,15 +1,11 @@
 -- The numbers of document 01 for each answer: the table of faults, "Query faults are 32 plus the number", the refusals of the spread form,
 -- and what a check or a call that writes answers. Assumes nothing.
-use Rattle.std.specs.Prelude.{ℕ, ◌+◌, ◌*◌}
+use Rattle.std.specs.Prelude.{ℕ, ◌+◌, ◌*◌, Ok, Err}
 use Rattle.model.specs.declared.Fault.{Fault}
 use Rattle.model.specs.declared.Fault.TheVariants.{EmptyImage, WrongEdition, NoPredicates, ZeroField, LengthField, EndsEarly, FirstClause, ClauseExpected, VariableCount, GoalCount, ArgumentExpected, VariableNumber, GoalExpected, NoSuchPredicate, UnusedVariable, ClauseLength, LeftOver}
 use Rattle.model.specs.declared.Refusal.{Refusal}
 use Rattle.model.specs.declared.Refusal.TheVariants.{Image, Query, TooWide, ListEnds, Room, UnknownOp, SliceLength, Damaged, NoWorker, NoSlot, NoAnswer}
-use Rattle.model.specs.declared.Verdict.{Verdict}
-use Rattle.model.specs.declared.Verdict.TheVariants.{Legal, Refused}
-use Rattle.model.specs.declared.Written.{Written}
-use Rattle.model.specs.declared.Written.TheVariants.{Done}
-use Rattle.model.specs.declared.Written.TheVariants.{Refused as RefusedRoom}
+use Rattle.model.specs.Answers.{Verdict, Written}
 
 abbrev pub fault_number : Fault → ℕ
 fault_number EmptyImage = 1
@@ -45,15 +41,15 @@ refusal_number NoAnswer = 25
 
 -- as one number: number times 2^32 plus position, 0 if legal
 abbrev pub verdict_number : Verdict → ℕ
-verdict_number Legal = 0
-verdict_number (Refused refusal at) = refusal_number refusal * 4294967296 + at
+verdict_number (Ok u) = 0
+verdict_number (Err stop) = refusal_number stop.0 * 4294967296 + stop.1
 
 -- 0 where words were written
 unfoldable pub written_number : Written → ℕ
-written_number (Done count) = 0
-written_number (RefusedRoom refusal at) = refusal_number refusal
+written_number (Ok count) = 0
+written_number (Err stop) = refusal_number stop.0
 
 -- the count of words written, or the position
 unfoldable pub written_value : Written → ℕ
-written_value (Done count) = count
-written_value (RefusedRoom refusal at) = at
+written_value (Ok count) = count
+written_value (Err stop) = stop.1

@@ -1,17 +1,11 @@
 -- The spread form: document 01, "Rule image", last paragraph: "one field per word, zero fields dropped".
 -- Where the page is silent: of 19, 29 and 18 the one at the smallest place in the list is given, and 19 stands at the list's length;
 -- the header's second word says how many predicate words follow; a list that ends between two words' groups is no 19. Assumes nothing.
-use Rattle.std.specs.Prelude.{Bool, true, cond, List, [], ◌∷◌, ◌++◌, ℕ, zero, suc, ◌+◌, ◌*◌, ◌^◌, eqb, ltb, leb, length, get_or, drop}
+use Rattle.std.specs.Prelude.{Bool, true, cond, List, [], ◌∷◌, ◌++◌, ℕ, zero, suc, ◌+◌, ◌*◌, ◌^◌, eqb, ltb, leb, length, get_or, drop, Ok, Err}
 use Rattle.model.specs.declared.Kind.{Kind}
 use Rattle.model.specs.declared.Kind.TheVariants.{Header, Predicate, Clause, Var, Con, Goal}
 use Rattle.model.specs.declared.Refusal.TheVariants.{TooWide, ListEnds, Room, UnknownOp}
-use Rattle.model.specs.declared.Verdict.{Verdict}
-use Rattle.model.specs.declared.Verdict.TheVariants.{Legal}
-use Rattle.model.specs.declared.Verdict.TheVariants.{Refused as Illegal}
-use Rattle.model.specs.declared.Scan.{Scan}
-use Rattle.model.specs.declared.Scan.TheVariants.{Through, Stopped}
-use Rattle.model.specs.declared.Written.{Written}
-use Rattle.model.specs.declared.Written.TheVariants.{Done, Refused}
+use Rattle.model.specs.Answers.{Scan, Verdict, Written, refused_at}
 use Rattle.model.specs.Fields.{widths_of, kept_fields, below, field, predicate_count, op}
 use Rattle.model.specs.Image.{check_image}
 
@@ -58,14 +52,14 @@ unpacked image = unpacked_from (predicate_count (get_or image 0 0)) 0 image
 -- what is wrong with a list, "at the first place in the list"
 
 abbrev pub further : (ℕ → Scan) → Scan → Scan
-further next (Through at) = next at
-further next (Stopped refusal at) = Stopped refusal at
+further next (Ok at) = next at
+further next (Err stop) = Err stop
 
 -- the values of one group: "19 list ends inside a word's group", "18 a value too wide for its field"
 unfoldable pub judged : List ℕ → List ℕ → ℕ → List ℕ → Scan
-judged widths [] at rest = Through at
-judged widths (i ∷ kept) at [] = Stopped ListEnds at
-judged widths (i ∷ kept) at (value ∷ rest) = cond (ltb value (2 ^ get_or widths i 0)) (judged widths kept (suc at) rest) (Stopped TooWide at)
+judged widths [] at rest = Ok at
+judged widths (i ∷ kept) at [] = refused_at ListEnds at
+judged widths (i ∷ kept) at (value ∷ rest) = cond (ltb value (2 ^ get_or widths i 0)) (judged widths kept (suc at) rest) (refused_at TooWide at)
 
 -- an op stands first in every group after the predicates': "29 op is none of 1, 2, 8, 9 (18 never judges an op)"
 unfoldable pub op_known : ℕ → ℕ → ℕ → Bool
@@ -74,12 +68,12 @@ op_known count number op = cond (leb number count) true (known_op op)
 unfoldable pub judged_group : ℕ → ℕ → ℕ → List ℕ → Scan
 judged_group count number at rest =
     let kind = kind_at count number (get_or rest 0 0) in
-    cond (op_known count number (get_or rest 0 0)) (judged (widths_of kind) (kept_fields kind) at rest) (Stopped UnknownOp at)
+    cond (op_known count number (get_or rest 0 0)) (judged (widths_of kind) (kept_fields kind) at rest) (refused_at UnknownOp at)
 
 -- group after group, through with so many words; there are at most as many groups as the list has values
 unfoldable pub scan_from : ℕ → ℕ → ℕ → ℕ → List ℕ → Scan
-scan_from zero count number at rest = Through number
-scan_from (suc most) count number at [] = Through number
+scan_from zero count number at rest = Ok number
+scan_from (suc most) count number at [] = Ok number
 scan_from (suc most) count number at (value ∷ rest) =
     further (λ next. scan_from most count (suc number) next (drop (group_size (kind_at count number value)) (value ∷ rest)))
     (judged_group count number at (value ∷ rest))
@@ -109,19 +103,19 @@ written_to answer room = record { answer = answer; room = room }
 
 -- "return the count of words written; words past it stay"
 abbrev pub written : List ℕ → List ℕ → WrittenTo
-written words room = written_to (Done (length words)) (words ++ drop (length words) room)
+written words room = written_to (Ok (length words)) (words ++ drop (length words) room)
 
 -- "26, too little room", whose position is 0
 unfoldable pub write_out : List ℕ → List ℕ → WrittenTo
-write_out words room = cond (leb (length words) (length room)) (written words room) (written_to (Refused Room 0) room)
+write_out words room = cond (leb (length words) (length room)) (written words room) (written_to (refused_at Room 0) room)
 
 abbrev pub if_scanned : Scan → List ℕ → WrittenTo → WrittenTo
-if_scanned (Through count) room next = next
-if_scanned (Stopped refusal at) room next = written_to (Refused refusal at) room
+if_scanned (Ok count) room next = next
+if_scanned (Err stop) room next = written_to (Err stop) room
 
 abbrev pub if_checked : Verdict → List ℕ → WrittenTo → WrittenTo
-if_checked Legal room next = next
-if_checked (Illegal refusal at) room next = written_to (Refused refusal at) room
+if_checked (Ok u) room next = next
+if_checked (Err stop) room next = written_to (Err stop) room
 
 -- "packing refuses, at the first place in the list, ..; then 1 to 17 at the packed word; then 26"
 unfoldable pub pack : List ℕ → List ℕ → WrittenTo

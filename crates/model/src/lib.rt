@@ -39,12 +39,12 @@ pub enum Fault {
     LeftOver,
 }
 
-// Where the check stands: on, at a word and with so many variables seen in the clause; or stopped by a fault met at a word.
+// A fault, and the position at which the check met it.
 #[derive(Clone, Copy)]
-pub enum Walk {
-    On(usize, u32),
-    Met(Fault, usize),
-}
+pub struct Met(pub Fault, pub usize);
+
+// Where the check stands: on, at a word and with so many variables seen in the clause; or stopped by a fault.
+pub type Walk = Result<(usize, u32), Met>;
 
 // Why a call is refused: a fault of the image; a fault of the query, whose numbers are its own; and what is wrong with a spread list or a room.
 #[derive(Clone, Copy)]
@@ -62,26 +62,18 @@ pub enum Refusal {
     NoAnswer,
 }
 
-// What a check answers: legal, or the refusal and the position.
+// A refusal and its position.
 #[derive(Clone, Copy)]
-pub enum Verdict {
-    Legal,
-    Refused(Refusal, usize),
-}
+pub struct Refused(pub Refusal, pub usize);
 
-// Where the scan of a spread list stands: through, up to a place in the list or a count of words; or stopped by a refusal at a place.
-#[derive(Clone, Copy)]
-pub enum Scan {
-    Through(usize),
-    Stopped(Refusal, usize),
-}
+// What a check answers: legal, or the refusal.
+pub type Verdict = Result<(), Refused>;
 
-// What a call that writes into a room answers: the count of words written, or the refusal and the position.
-#[derive(Clone, Copy)]
-pub enum Written {
-    Done(usize),
-    Refused(Refusal, usize),
-}
+// Where the scan of a spread list stands: through, up to a place in the list or a count of words; or stopped by a refusal.
+pub type Scan = Result<usize, Refused>;
+
+// What a call that writes into a room answers: the count of words written, or the refusal.
+pub type Written = Result<usize, Refused>;
 
 // A variable's number: it names a slot of the binding arrays, and repeats on sibling branches.
 #[derive(Clone, Copy)]
@@ -134,23 +126,11 @@ pub enum Outcome {
     Full,
 }
 
-// What a step answers: the outcome and the worker's slot, or the refusal and the position.
-#[derive(Clone, Copy)]
-pub enum StepAnswer {
-    Done(Outcome, u32),
-    Refused(Refusal, usize),
-}
+// What a step answers: the outcome and the worker's slot, or the refusal.
+pub type StepAnswer = Result<(Outcome, u32), Refused>;
 
-// What a run answers: the outcome, the worker's slot and the steps counted, or the refusal and the position.
-#[derive(Clone, Copy)]
-pub enum RunAnswer {
-    Done(Outcome, u32, u32),
-    Refused(Refusal, usize),
-}
+// What a run answers: the outcome, the worker's slot and the steps counted, or the refusal.
+pub type RunAnswer = Result<(Outcome, u32, u32), Refused>;
 
-// What a move answers: the entries passed on both legs, or the refusal and the position.
-#[derive(Clone, Copy)]
-pub enum MoveAnswer {
-    Done(u32),
-    Refused(Refusal, usize),
-}
+// What a move answers: the entries passed on both legs, or the refusal.
+pub type MoveAnswer = Result<u32, Refused>;

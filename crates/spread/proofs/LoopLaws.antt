@@ -12,37 +12,30 @@ use lib.Seq.{drop-cons, sets, sets-eq}
 use borrow.Author.Tests.{ltb-true, ltb-false}
 use Rattle.model.specs.declared.Kind.{Kind}
 use Rattle.model.specs.declared.Refusal.TheVariants.{TooWide, ListEnds}
-use Rattle.model.specs.declared.Scan.TheVariants.{Through, Stopped}
+use Rattle.model.specs.Answers.{refused_at}
+use Rattle.std.proofs.Common.{Ok}
 use Rattle.model.specs.Fields.{widths_of, kept_fields, below, field, op}
 use Rattle.model.specs.Spread.{spread_fields, spread_word, join_fields, packed_word, group_size, kind_at, unpacked_from, judged}
 use Rattle.spread.specs.GroupLaws.{not_through, judged-through, join-group}
 use Rattle.spread.specs.ListLaws.{spread-size}
 use Rattle.spread.specs.WordLaws.{packed_lt}
 
--- storing what is left of a list
-module _ (room values : List ℕ) (at i : ℕ) where
-  pub store-turn : i < length values → sets (set room at (get_or values i 0)) (at + 1) (drop (i + 1) values) ≡ sets room at (drop i values)
-  store-turn h = rw (add-one, add-one, drop-cons values i 0 h) refl
-
-  pub store-end : length values ≤ i → sets room at (drop i values) ≡ room
-  store-end h = rw (drop_of_length-le values h) refl
-
 pub stored : (room values : List ℕ) → length values ≤ length room → sets room 0 values ≡ values ++ drop (length values) room
 stored room values h = sets-eq values room 0 (omega arith) ∙ ap (λ (n : ℕ). values ++ drop n room) (zero-add (length values))
 
 -- judging what is left of a group
 module _ (widths kept list : List ℕ) (place j : ℕ) where
-  pub judge-end : length kept ≤ j → judged widths (drop j kept) place (drop place list) ≡ Through place
+  pub judge-end : length kept ≤ j → judged widths (drop j kept) place (drop place list) ≡ Ok place
   unfolding judged
   judge-end h = rw (drop_of_length-le kept h) refl
 
-  pub judge-short : j < length kept → length list ≤ place → judged widths (drop j kept) place (drop place list) ≡ Stopped ListEnds place
+  pub judge-short : j < length kept → length list ≤ place → judged widths (drop j kept) place (drop place list) ≡ refused_at ListEnds place
   unfolding judged
   judge-short h l = rw (drop-cons kept j 0 h, drop_of_length-le list l) refl
 
   pub judge-turn : j < length kept → place < length list
       → judged widths (drop j kept) place (drop place list)
-      ≡ cond (ltb (get_or list place 0) (2 ^ get_or widths (get_or kept j 0) 0)) (judged widths (drop (j + 1) kept) (place + 1) (drop (place + 1) list)) (Stopped TooWide place)
+      ≡ cond (ltb (get_or list place 0) (2 ^ get_or widths (get_or kept j 0) 0)) (judged widths (drop (j + 1) kept) (place + 1) (drop (place + 1) list)) (refused_at TooWide place)
   unfolding judged
   judge-turn h l = rw (add-one, add-one, drop-cons kept j 0 h, drop-cons list place 0 l) refl
 
@@ -71,9 +64,9 @@ module _ (widths kept room : List ℕ) (word at j : ℕ) where
 pub record OneValue (widths kept list : List ℕ) (place j end : ℕ) : Type 0 where
   pub inside : place < length list
   pub fits : get_or list place 0 < 2 ^ get_or widths (get_or kept j 0) 0
-  pub others : judged widths (drop (j + 1) kept) (place + 1) (drop (place + 1) list) ≡ Through end
+  pub others : judged widths (drop (j + 1) kept) (place + 1) (drop (place + 1) list) ≡ Ok end
 
-pub one_value : (widths kept list : List ℕ) (place j end : ℕ) → j < length kept → judged widths (drop j kept) place (drop place list) ≡ Through end
+pub one_value : (widths kept list : List ℕ) (place j end : ℕ) → j < length kept → judged widths (drop j kept) place (drop place list) ≡ Ok end
     → OneValue widths kept list place j end
 one_value widths kept list place j end h e = go (ltb place (length list)) refl (ltb (get_or list place 0) (2 ^ get_or widths (get_or kept j 0) 0)) refl
   where
@@ -88,7 +81,7 @@ one_value widths kept list place j end h e = go (ltb place (length list)) refl (
         record { inside = ltb-true place (length list) q; fits = ltb-true (get_or list place 0) (2 ^ get_or widths (get_or kept j 0) 0) r; others = sym (rw r at t) ∙ e }
 
 -- the word of a group that is judged through is a word
-pub joined-lt : (kind : Kind) (at end : ℕ) (rest : List ℕ) → judged (widths_of kind) (kept_fields kind) at rest ≡ Through end → packed_word kind rest < 4294967296
+pub joined-lt : (kind : Kind) (at end : ℕ) (rest : List ℕ) → judged (widths_of kind) (kept_fields kind) at rest ≡ Ok end → packed_word kind rest < 4294967296
 unfolding packed_word
 joined-lt kind at end rest e =
     rw (join-group (widths_of kind) (kept_fields kind) rest) (packed_lt kind (take (length (kept_fields kind)) rest) (judged-through (widths_of kind) (kept_fields kind) at end rest e).fit)

@@ -10,8 +10,8 @@ use lib.Seq.{get_or-drop, drop-drop, sets}
 use Rattle.model.specs.declared.Kind.{Kind}
 use Rattle.model.specs.declared.Refusal.{Refusal}
 use Rattle.model.specs.declared.Refusal.TheVariants.{UnknownOp}
-use Rattle.model.specs.declared.Scan.{Scan}
-use Rattle.model.specs.declared.Scan.TheVariants.{Through, Stopped}
+use Rattle.model.specs.Answers.{Scan, refused_at}
+use Rattle.std.proofs.Common.{Ok}
 use Rattle.model.specs.Fields.{widths_of, kept_fields}
 use Rattle.model.specs.Spread.{group_size, kind_at, packed_word, further, judged, op_known, judged_group, scan_from, packed_from}
 use Rattle.spread.specs.ScanLaws.{size-at, kind_of, group-through, scan_step, packed_step, opened, scan-counts}
@@ -21,7 +21,7 @@ first-value : (list : List ℕ) (at : ℕ) → get_or (drop at list) 0 0 ≡ get
 first-value list at = get_or-drop at list 0 0 ∙ ap (λ (n : ℕ). get_or list n 0) (add-zero at)
 
 module _ (count number at : ℕ) (list : List ℕ) where
-  pub group-unknown : op_known count number (get_or list at 0) ≡ false → Stopped UnknownOp at ≡ judged_group count number at (drop at list)
+  pub group-unknown : op_known count number (get_or list at 0) ≡ false → refused_at UnknownOp at ≡ judged_group count number at (drop at list)
   unfolding judged_group
   group-unknown q = rw (first-value list at, q) refl
 
@@ -42,14 +42,14 @@ module _ (count number at : ℕ) (list : List ℕ) where
     pub ahead : at < next
     pub inside : next ≤ length list
     pub ends : next ≡ at + group_size here
-    pub through : judged (widths_of here) (kept_fields here) at (drop at list) ≡ Through next
+    pub through : judged (widths_of here) (kept_fields here) at (drop at list) ≡ Ok next
     pub scans : scan_from left count (number + 1) next (drop next list) ≡ scan_from most count number at (drop at list)
     pub packs : packed_from most count number (drop at list) ≡ packed_word here (drop at list) ∷ packed_from left count (number + 1) (drop next list)
 
   rest-nonempty : at < length list → 0 < length (drop at list)
   rest-nonempty h = omega (arith, length-drop at list)
 
-  pub turn : (most next : ℕ) → at < length list → length list ≤ at + most → judged_group count number at (drop at list) ≡ Through next → Turn most next
+  pub turn : (most next : ℕ) → at < length list → length list ≤ at + most → judged_group count number at (drop at list) ≡ Ok next → Turn most next
   turn zero next h l e = absurd (omega arith)
   turn (suc most) next h l e =
       let g = group-through count number at (drop at list) next e in
@@ -71,20 +71,20 @@ module _ (count number at : ℕ) (list : List ℕ) where
             ∙ ap (λ (kind : Kind). packed_word kind (drop at list) ∷ packed_from most count (suc number) (drop next list)) k);
       }
 
-  pub stops : (most place : ℕ) (refusal : Refusal) → at < length list → length list ≤ at + most → Stopped refusal place ≡ judged_group count number at (drop at list)
-      → Stopped refusal place ≡ scan_from most count number at (drop at list)
+  pub stops : (most place : ℕ) (refusal : Refusal) → at < length list → length list ≤ at + most → refused_at refusal place ≡ judged_group count number at (drop at list)
+      → refused_at refusal place ≡ scan_from most count number at (drop at list)
   stops zero place refusal h l e = absurd (omega arith)
   stops (suc most) place refusal h l e =
       sym (scan_step count number at (drop at list) most (rest-nonempty h)
       ∙ ap (further (λ end. scan_from most count (suc number) end (drop (group_size (kind_of count number (drop at list))) (drop at list)))) (sym e))
 
   -- a scan that goes through takes the group that stands at the place
-  pub takes : (most words : ℕ) → at < length list → length list ≤ at + most → scan_from most count number at (drop at list) ≡ Through words
-      → (next : ℕ) × (judged_group count number at (drop at list) ≡ Through next)
+  pub takes : (most words : ℕ) → at < length list → length list ≤ at + most → scan_from most count number at (drop at list) ≡ Ok words
+      → (next : ℕ) × (judged_group count number at (drop at list) ≡ Ok next)
   takes zero words h l e = absurd (omega arith)
   takes (suc most) words h l e = let o = opened count number at (drop at list) most words (rest-nonempty h) e in (o.end, o.first)
 
-  pub scan-over : (most : ℕ) → length list ≤ at → Through number ≡ scan_from most count number at (drop at list)
+  pub scan-over : (most : ℕ) → length list ≤ at → Ok number ≡ scan_from most count number at (drop at list)
   unfolding scan_from
   scan-over zero h = refl
   scan-over (suc most) h = rw (drop_of_length-le list h) refl
@@ -95,7 +95,7 @@ module _ (count number at : ℕ) (list : List ℕ) where
   pack-over (suc most) h = rw (drop_of_length-le list h) refl
 
   -- the words that are still to be packed are those still to be counted
-  pub counted : (most words : ℕ) → length list ≤ at + most → scan_from most count number at (drop at list) ≡ Through words
+  pub counted : (most words : ℕ) → length list ≤ at + most → scan_from most count number at (drop at list) ≡ Ok words
       → number + length (packed_from most count number (drop at list)) ≡ words
   counted most words l e = scan-counts most count number at words (drop at list) (omega (arith, length-drop at list)) e
 

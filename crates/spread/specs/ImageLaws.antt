@@ -1,5 +1,5 @@
 -- The words of a legal image, one by one: each is of the kind that stands at its number, with its zero field 0. Assumes nothing.
-use Rattle.std.specs.Prelude.{◌≡◌, Bool, true, false, cond, List, [], ◌∷◌, eqb, ltb, leb, length, get_or, drop}
+use Rattle.std.specs.Prelude.{◌≡◌, Bool, true, false, cond, List, [], ◌∷◌, eqb, ltb, leb, length, get_or, drop, Ok, Err}
 use Rattle.std.proofs.Math.Path.{refl}
 use Rattle.std.proofs.Common.{sym, ap, subst, ◌∙◌, arith, drop_of_length-le, drop-cons, eqb-true, leb-false, ltb-false}
 use Prim.Native.Nat.{ℕ, zero, suc, ◌+◌, ◌≤◌, ◌<◌}
@@ -7,10 +7,7 @@ use Rattle.std.proofs.lemmas.Bool.{eqb-false}
 use Rattle.model.specs.declared.Fault.{Fault}
 use Rattle.model.specs.declared.Fault.TheVariants.{EmptyImage, WrongEdition, NoPredicates, ZeroField, LengthField, EndsEarly, LeftOver}
 use Rattle.model.specs.declared.Refusal.TheVariants.{Image}
-use Rattle.model.specs.declared.Verdict.{Verdict}
-use Rattle.model.specs.declared.Verdict.TheVariants.{Legal, Refused}
-use Rattle.model.specs.declared.Walk.{Walk}
-use Rattle.model.specs.declared.Walk.TheVariants.{On, Met}
+use Rattle.model.specs.Answers.{Verdict, Walk, met}
 use Rattle.model.specs.Fields.{op, edition, predicate_count, header_zero, image_length}
 use Rattle.model.specs.Image.{onward, predicates, header, ending, image_walk, verdict, check_image}
 use Rattle.model.specs.Encoding.{Words}
@@ -19,28 +16,28 @@ use Rattle.spread.specs.WordLaws.{ZeroFields}
 use Rattle.spread.specs.LegalLaws.{Fine, Checked, predicates-checked}
 
 abbrev IsLegal : Verdict → Type 0
-IsLegal Legal = Unit {0}
-IsLegal (Refused refusal at) = ⊥
+IsLegal (Ok u) = Unit {0}
+IsLegal (Err stop) = ⊥
 
-refused-legal : (fault : Fault) (at : ℕ) → verdict Image (Met fault at) ≡ Legal → ⊥
+refused-legal : (fault : Fault) (at : ℕ) → verdict Image (met fault at) ≡ Ok tt → ⊥
 refused-legal fault at e = subst IsLegal (sym e) tt
 
 -- a walk that ends legally has gone on at each step
-gone-on : (next : ℕ → ℕ → Walk) (walk : Walk) → verdict Image (onward next walk) ≡ Legal
-    → (at : ℕ) × (seen : ℕ) × (walk ≡ On at seen) × (verdict Image (next at seen) ≡ Legal)
-gone-on next (On at seen) e = (at, seen, refl, e)
-gone-on next (Met fault at) e = absurd (refused-legal fault at e)
+gone-on : (next : ℕ → ℕ → Walk) (walk : Walk) → verdict Image (onward next walk) ≡ Ok tt
+    → (at : ℕ) × (seen : ℕ) × (walk ≡ Ok (at, seen)) × (verdict Image (next at seen) ≡ Ok tt)
+gone-on next (Ok (at, seen)) e = (at, seen, refl, e)
+gone-on next (Err stop) e = absurd (refused-legal stop.0 stop.1 e)
 
 abbrev IsMet : Walk → Type 0
-IsMet (On at seen) = ⊥
-IsMet (Met fault at) = Unit {0}
+IsMet (Ok (at, seen)) = ⊥
+IsMet (Err stop) = Unit {0}
 
-not_on : {A : Type 0} {fault : Fault} {place at seen : ℕ} → Met fault place ≡ On at seen → A
+not_on : {A : Type 0} {fault : Fault} {place at seen : ℕ} → ◌≡◌ {A = Walk} (met fault place) (Ok (at, seen)) → A
 not_on e = absurd (subst IsMet e tt)
 
 abbrev at_of : Walk → ℕ
-at_of (On at seen) = at
-at_of (Met fault at) = at
+at_of (Ok (at, seen)) = at
+at_of (Err stop) = stop.1
 
 -- what the header's tests say
 record Begun (image : List ℕ) (first : ℕ) : Type 0 where
@@ -48,7 +45,7 @@ record Begun (image : List ℕ) (first : ℕ) : Type 0 where
   zero : header_zero (get_or image 0 0) ≡ 0
   some : 0 < length image
 
-header-begun : (image : List ℕ) (first seen : ℕ) → header image ≡ On first seen → Begun image first
+header-begun : (image : List ℕ) (first seen : ℕ) → header image ≡ Ok (first, seen) → Begun image first
 unfolding header
 header-begun image first seen e =
     go (eqb (length image) 0) refl (eqb (edition word) 1) (eqb (predicate_count word) 0) (eqb (header_zero word) 0) refl (eqb (image_length word) (length image)) (leb (1 + predicate_count word) (length image)) e
@@ -57,7 +54,7 @@ header-begun image first seen e =
     word = get_or image 0 0
 
     go : (empty? : Bool) → eqb (length image) 0 ≡ empty? → (edition? none? zero? : Bool) → eqb (header_zero word) 0 ≡ zero? → (length? long? : Bool)
-        → cond empty? (Met EmptyImage 0) (cond edition? (cond none? (Met NoPredicates 0) (cond zero? (cond length? (cond long? (On (1 + predicate_count word) 0) (Met EndsEarly (length image))) (Met LengthField 0)) (Met ZeroField 0))) (Met WrongEdition 0)) ≡ On first seen
+        → cond {A = Walk} empty? (met EmptyImage 0) (cond edition? (cond none? (met NoPredicates 0) (cond zero? (cond length? (cond long? (Ok (1 + predicate_count word, 0)) (met EndsEarly (length image))) (met LengthField 0)) (met ZeroField 0))) (met WrongEdition 0)) ≡ Ok (first, seen)
         → Begun image first
     go true p d n z q l m f = not_on f
     go false p false n z q l m f = not_on f
@@ -69,11 +66,11 @@ header-begun image first seen e =
         let n = eqb-false (length image) 0 p in
         record { starts = ap at_of (sym f); zero = eqb-true (header_zero word) 0 q; some = omega arith }
 
-ending-done : (image : List ℕ) (at seen : ℕ) → verdict Image (ending image at seen) ≡ Legal → length image ≤ at
+ending-done : (image : List ℕ) (at seen : ℕ) → verdict Image (ending image at seen) ≡ Ok tt → length image ≤ at
 unfolding ending
 ending-done image at seen e = go (ltb at (length image)) refl e
   where
-    go : (left? : Bool) → ltb at (length image) ≡ left? → verdict Image (cond left? (Met LeftOver at) (On at seen)) ≡ Legal → length image ≤ at
+    go : (left? : Bool) → ltb at (length image) ≡ left? → verdict Image (cond left? (met LeftOver at) (Ok (at, seen))) ≡ Ok tt → length image ≤ at
     go true q f = absurd (refused-legal LeftOver at f)
     go false q f = ltb-false at (length image) q
 
@@ -93,7 +90,7 @@ pub record Walked (image : List ℕ) : Type 0 where
   pub some : 0 < length image
   pub fine : (i : ℕ) → predicate_count (get_or image 0 0) < i → i < length image → Fine (get_or image i 0)
 
-pub walked : (image : List ℕ) → check_image image ≡ Legal → Walked image
+pub walked : (image : List ℕ) → check_image image ≡ Ok tt → Walked image
 unfolding check_image image_walk
 walked image legal =
     let count = predicate_count (get_or image 0 0) in
@@ -104,7 +101,7 @@ walked image legal =
     let d = ending-done image g.0 g.1 g.3 in
     record { zero = b.zero; some = b.some; fine = λ i l m. f i (omega (arith, b.starts)) (omega arith) }
 
-module _ (image : List ℕ) (legal : check_image image ≡ Legal) where
+module _ (image : List ℕ) (legal : check_image image ≡ Ok tt) where
   word_stands : (i : ℕ) → i < length image → Stands (predicate_count (get_or image 0 0)) i (get_or image i 0)
   unfolding op_known kind_at ZeroFields Fine
   word_stands i l = go (eqb i 0) refl (leb i count) refl

@@ -1,13 +1,12 @@
 -- Every word of a legal image after the predicates has a known op, and 0 in its zero field: the check passes over no word. Assumes nothing.
-use Rattle.std.specs.Prelude.{◌≡◌, Bool, cond, List, eqb, ltb, leb, length}
+use Rattle.std.specs.Prelude.{◌≡◌, Bool, cond, List, eqb, ltb, leb, length, Ok, Err}
 use Rattle.std.proofs.Math.Path.{refl}
 use Rattle.std.proofs.Common.{subst, arith, eqb-true, ltb-true, ltb-false}
 use Rattle.std.proofs.Math.Bool.{true, false}
 use Prim.Native.Nat.{ℕ, zero, suc, ◌+◌, ◌-◌, ◌≤◌, ◌<◌}
 use Rattle.std.proofs.Math.ListN.{get_or}
 use Rattle.model.specs.declared.Fault.TheVariants.{ZeroField, EndsEarly, ArgumentExpected, VariableNumber, GoalExpected, NoSuchPredicate, VariableCount, GoalCount, ClauseExpected, UnusedVariable, ClauseLength, FirstClause}
-use Rattle.model.specs.declared.Walk.{Walk}
-use Rattle.model.specs.declared.Walk.TheVariants.{On, Met}
+use Rattle.model.specs.Answers.{Walk, met}
 use Rattle.model.specs.Fields.{op, variable_zero, variable_number, goal_zero, goal_predicate, predicate_count, arity, variables, goal_count, clause_length, clause_count, first_clause}
 use Rattle.model.specs.Image.{onward, predicate_word, variable_at, argument, arguments, goal_word, goal, goals, clause_word, clause_end, clause, clauses, predicate, predicates}
 use Rattle.model.specs.Spread.{known_op, kind_of_op}
@@ -43,24 +42,24 @@ below_or_not {A} i at f g = go (ltb i at) refl
 module _ (words : List ℕ) where
   -- where the walk goes on, the words that it passed are fine
   abbrev pub Checked : ℕ → Walk → Type 0
-  Checked from (On at seen) = (i : ℕ) → from ≤ i → i < at → Fine (get_or words i 0)
-  Checked from (Met fault at) = Unit {0}
+  Checked from (Ok (at, seen)) = (i : ℕ) → from ≤ i → i < at → Fine (get_or words i 0)
+  Checked from (Err stop) = Unit {0}
 
   checked-from : (from at : ℕ) (walk : Walk) → ((i : ℕ) → from ≤ i → i < at → Fine (get_or words i 0)) → Checked at walk → Checked from walk
-  checked-from from at (On end seen) f g = λ i l h. below_or_not i at (λ b. f i l b) (λ b. g i b h)
-  checked-from from at (Met fault place) f g = tt
+  checked-from from at (Ok (end, seen)) f g = λ i l h. below_or_not i at (λ b. f i l b) (λ b. g i b h)
+  checked-from from at (Err stop) f g = tt
 
   checked-onward : (from : ℕ) (next : ℕ → ℕ → Walk) (walk : Walk) → ((at seen : ℕ) → Checked at (next at seen)) → Checked from walk → Checked from (onward next walk)
-  checked-onward from next (On at seen) n f = checked-from from at (next at seen) f (n at seen)
-  checked-onward from next (Met fault at) n f = tt
+  checked-onward from next (Ok (at, seen)) n f = checked-from from at (next at seen) f (n at seen)
+  checked-onward from next (Err stop) n f = tt
 
-  checked-word : (at seen : ℕ) → Fine (get_or words at 0) → Checked at (On (at + 1) seen)
+  checked-word : (at seen : ℕ) → Fine (get_or words at 0) → Checked at (Ok (at + 1, seen))
   checked-word at seen f = λ i l h. let e : at ≡ i = omega arith in subst (λ (n : ℕ). Fine (get_or words n 0)) e f
 
-  checked-none : (at seen : ℕ) → Checked at (On at seen)
+  checked-none : (at seen : ℕ) → Checked at (Ok (at, seen))
   checked-none at seen = λ i l h. absurd (omega arith)
 
-  repeat-checked : (walk : ℕ → ℕ → ℕ → Walk) (one : ℕ → ℕ → Walk) → ((at seen : ℕ) → walk 0 at seen ≡ On at seen)
+  repeat-checked : (walk : ℕ → ℕ → ℕ → Walk) (one : ℕ → ℕ → Walk) → ((at seen : ℕ) → walk 0 at seen ≡ Ok (at, seen))
       → ((left at seen : ℕ) → walk (suc left) at seen ≡ onward (walk left) (one at seen))
       → ((at seen : ℕ) → Checked at (one at seen)) → (left at seen : ℕ) → Checked at (walk left at seen)
   repeat-checked walk one none more each zero at seen = rw (none at seen) (checked-none at seen)
@@ -78,7 +77,7 @@ module _ (words : List ℕ) where
       n = variable_number word
 
       go : (zero? : Bool) → eqb (variable_zero word) 0 ≡ zero? → (declared? below? next? : Bool)
-          → Checked at (cond zero? (cond declared? (cond below? (On (at + 1) seen) (cond next? (On (at + 1) (seen + 1)) (Met VariableNumber at))) (Met VariableNumber at)) (Met ZeroField at))
+          → Checked at (cond zero? (cond declared? (cond below? (Ok (at + 1, seen)) (cond next? (Ok (at + 1, seen + 1)) (met VariableNumber at))) (met VariableNumber at)) (met ZeroField at))
       go false z d b e = tt
       go true z false b e = tt
       go true z true true e = checked-word at seen (fine-variable word o (eqb-true (variable_zero word) 0 z))
@@ -93,7 +92,7 @@ module _ (words : List ℕ) where
       word = get_or words at 0
 
       go : (present? variable? : Bool) → eqb (op word) 1 ≡ variable? → (constant? : Bool) → eqb (op word) 2 ≡ constant?
-          → Checked at (cond present? (cond variable? (variable_at word declared at seen) (cond constant? (On (at + 1) seen) (Met ArgumentExpected at))) (Met EndsEarly (length words)))
+          → Checked at (cond present? (cond variable? (variable_at word declared at seen) (cond constant? (Ok (at + 1, seen)) (met ArgumentExpected at))) (met EndsEarly (length words)))
       go false v q c r = tt
       go true true q c r = variable-checked declared at seen (eqb-true (op word) 1 q)
       go true false q true r = checked-word at seen (fine-constant word (eqb-true (op word) 2 r))
@@ -112,7 +111,7 @@ module _ (words : List ℕ) where
       word = get_or words at 0
 
       go : (present? goal? : Bool) → eqb (op word) 9 ≡ goal? → (zero? : Bool) → eqb (goal_zero word) 0 ≡ zero? → (known? : Bool)
-          → Checked at (cond present? (cond goal? (cond zero? (cond known? (On (at + 1) seen) (Met NoSuchPredicate at)) (Met ZeroField at)) (Met GoalExpected at)) (Met EndsEarly (length words)))
+          → Checked at (cond present? (cond goal? (cond zero? (cond known? (Ok (at + 1, seen)) (met NoSuchPredicate at)) (met ZeroField at)) (met GoalExpected at)) (met EndsEarly (length words)))
       go false g q z r k = tt
       go true false q z r k = tt
       go true true q false r k = tt
@@ -138,7 +137,7 @@ module _ (words : List ℕ) where
       word = get_or words at 0
 
       go : (present? clause? : Bool) → eqb (op word) 8 ≡ clause? → (variables? most? least? : Bool)
-          → Checked at (cond present? (cond clause? (cond variables? (cond most? (cond least? (On (at + 1) 0) (Met GoalCount at)) (Met GoalCount at)) (Met VariableCount at)) (Met ClauseExpected at)) (Met EndsEarly (length words)))
+          → Checked at (cond present? (cond clause? (cond variables? (cond most? (cond least? (Ok (at + 1, 0)) (met GoalCount at)) (met GoalCount at)) (met VariableCount at)) (met ClauseExpected at)) (met EndsEarly (length words)))
       go false c q v m l = tt
       go true false q v m l = tt
       go true true q false m l = tt
@@ -150,7 +149,7 @@ module _ (words : List ℕ) where
   unfolding clause_end
   clause_end-checked word start at seen = go (ltb seen (variables word)) (eqb (clause_length word) (at - start))
     where
-      go : (unused? length? : Bool) → Checked at (cond unused? (Met UnusedVariable start) (cond length? (On at 0) (Met ClauseLength start)))
+      go : (unused? length? : Bool) → Checked at (cond unused? (met UnusedVariable start) (cond length? (Ok (at, 0)) (met ClauseLength start)))
       go true l = tt
       go false true = checked-none at 0
       go false false = tt
@@ -177,7 +176,7 @@ module _ (image : List ℕ) where
       word : ℕ
       word = predicate_word image number
 
-      go : (here? : Bool) → Checked image at (cond here? (clauses (clause_count word) image (arity word) at seen) (Met FirstClause (1 + number)))
+      go : (here? : Bool) → Checked image at (cond here? (clauses (clause_count word) image (arity word) at seen) (met FirstClause (1 + number)))
       go true = clauses-checked (arity word) (clause_count word) at seen
       go false = tt
 

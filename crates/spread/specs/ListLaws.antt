@@ -1,5 +1,5 @@
 -- The spread form of words that stand right packs to them, and a list that is scanned through is the spread form of its words. Assumes nothing.
-use Rattle.std.specs.Prelude.{◌≡◌, Bool, cond, List, [], ◌∷◌, ◌++◌, ℕ, zero, suc, ◌+◌, ◌≤◌, ◌<◌, length, take}
+use Rattle.std.specs.Prelude.{◌≡◌, Bool, cond, List, [], ◌∷◌, ◌++◌, ℕ, zero, suc, ◌+◌, ◌≤◌, ◌<◌, length, take, Ok}
 use Rattle.std.proofs.Math.Path.{refl, ap}
 use Rattle.std.proofs.Common.{sym, ap₂, ◌∙◌, arith, add-zero, lit<, take-append-drop, get_or-take, take_at}
 use Rattle.std.proofs.Math.Bool.{true, false}
@@ -9,7 +9,6 @@ use Rattle.std.proofs.Math.Seq.{drop_at}
 use borrow.Author.Tests.{eqb-true, le-leb}
 use Rattle.model.specs.declared.Kind.{Kind}
 use Rattle.model.specs.declared.Kind.TheVariants.{Var, Con, Clause, Goal}
-use Rattle.model.specs.declared.Scan.TheVariants.{Through}
 use Rattle.model.specs.Fields.{widths_of, kept_fields, total, below, field, op}
 use Rattle.model.specs.Encoding.{Words}
 use Rattle.model.specs.Spread.{spread_fields, spread_word, packed_word, group_size, kind_of_op, kind_at, unpacked_from, further, judged, op_known, judged_group, scan_from, packed_from}
@@ -64,7 +63,7 @@ module _ (count number word : ℕ) (rest : List ℕ) where
   record Begins : Type 0 where
     some : 0 < length list
     is : kind_of count number list ≡ kind
-    judges : (at : ℕ) → judged_group count number at list ≡ Through (at + group_size kind)
+    judges : (at : ℕ) → judged_group count number at list ≡ Ok (at + group_size kind)
     drops : drop (group_size (kind_of count number list)) list ≡ rest
     packs : packed_word (kind_of count number list) list ≡ word
 
@@ -88,10 +87,10 @@ module _ (count number word : ℕ) (rest : List ℕ) where
 
 -- spreading words that stand right, then scanning
 pub scan-unpacked : (most count number at : ℕ) (words : List ℕ) → Stand count number words → length (unpacked_from count number words) ≤ most
-    → scan_from most count number at (unpacked_from count number words) ≡ Through (number + length words)
+    → scan_from most count number at (unpacked_from count number words) ≡ Ok (number + length words)
 unfolding unpacked_from scan_from
-scan-unpacked zero count number at [] none l = ap Through (sym (add-zero number))
-scan-unpacked (suc most) count number at [] none l = ap Through (sym (add-zero number))
+scan-unpacked zero count number at [] none l = ap Ok (sym (add-zero number))
+scan-unpacked (suc most) count number at [] none l = ap Ok (sym (add-zero number))
 scan-unpacked zero count number at (word ∷ words) (more h s t) l =
     let b = begins count number word (unpacked_from count (suc number) words) h s in
     absurd (omega (arith, b.some))
@@ -105,7 +104,7 @@ scan-unpacked (suc most) count number at (word ∷ words) (more h s t) l =
     ∙ ap (further (λ next. scan_from most count (suc number) next (drop (group_size (kind_of count number whole)) whole))) (b.judges at)
     ∙ ap (scan_from most count (suc number) (at + group_size (kind count number word rest))) b.drops
     ∙ scan-unpacked most count (suc number) (at + group_size (kind count number word rest)) words t (rw b.drops at e)
-    ∙ ap Through n
+    ∙ ap Ok n
 
 -- .. and packing
 pub packed-unpacked : (most count number : ℕ) (words : List ℕ) → Stand count number words → length (unpacked_from count number words) ≤ most
@@ -138,7 +137,7 @@ words-none : Words []
 words-none zero = lit< tt
 words-none (suc i) = lit< tt
 
-pub unpacked-packed : (most count number at end : ℕ) (rest : List ℕ) → length rest ≤ most → scan_from most count number at rest ≡ Through end → Spreads most count number rest
+pub unpacked-packed : (most count number at end : ℕ) (rest : List ℕ) → length rest ≤ most → scan_from most count number at rest ≡ Ok end → Spreads most count number rest
 unfolding unpacked_from packed_from packed_word group_size
 unpacked-packed zero count number at end [] l e = record { small = words-none; whole = refl }
 unpacked-packed zero count number at end (value ∷ rest) l e = absurd (omega arith)

@@ -1,10 +1,8 @@
 -- THE ROUND TRIP: packing and unpacking undo each other on exactly the legal images. Document 01, "Rule image", last paragraph.
 -- `written words room` is the answer `Done`, with the count of the words, and the room with the words in front and what stood past them behind.
 -- The facts stand in the files beside this one. Assumes nothing.
-use Rattle.std.specs.Prelude.{◌≡◌, List, ℕ, ◌≤◌, length}
+use Rattle.std.specs.Prelude.{◌≡◌, List, ℕ, ◌≤◌, length, Ok}
 use Rattle.std.proofs.Common.{sym, ap, subst, ◌∙◌, arith}
-use Rattle.model.specs.declared.Verdict.TheVariants.{Legal}
-use Rattle.model.specs.declared.Written.TheVariants.{Done}
 use Rattle.model.specs.Image.{check_image}
 use Rattle.model.specs.Encoding.{Words}
 use Rattle.model.specs.Spread.{unpacked, packed, WrittenTo, written, pack, unpack}
@@ -13,11 +11,11 @@ use Rattle.spread.specs.TripLaws.{legal-writes, packed-words, packed-back, pack-
 
 -- an image that the check accepts; words are below 2^32
 abbrev pub LegalImage : List ℕ → Type 0
-LegalImage image = (check_image image ≡ Legal) × Words image
+LegalImage image = (check_image image ≡ Ok tt) × Words image
 
 -- a list that packs, given a room
 abbrev pub PacksTo : List ℕ → List ℕ → ℕ → Type 0
-PacksTo list room count = (pack list room).answer ≡ Done count
+PacksTo list room count = (pack list room).answer ≡ Ok count
 
 -- for every legal image and enough room, unpacking and then packing gives the image
 pub unpack-then-pack : (image room other : List ℕ) → LegalImage image → length (unpacked image) ≤ length room → length image ≤ length other

@@ -1,5 +1,5 @@
 -- The scan and the packing of a list, group after group: one step of each, and that the scan counts the packed words. Assumes nothing.
-use Rattle.std.specs.Prelude.{◌≡◌, Bool, true, false, cond, ℕ, zero, suc, ◌+◌, ◌≤◌, ◌<◌, eqb, leb, get_or, drop}
+use Rattle.std.specs.Prelude.{◌≡◌, Bool, true, false, cond, ℕ, zero, suc, ◌+◌, ◌≤◌, ◌<◌, eqb, leb, get_or, drop, Ok, Err}
 use Rattle.std.proofs.Math.Path.{refl}
 use Rattle.std.proofs.Common.{sym, ◌∙◌, arith, add-zero, length-drop}
 use mathlib.Core.List.{List, [], ◌∷◌}
@@ -7,8 +7,7 @@ use Rattle.std.proofs.Math.ListN.{length}
 use Rattle.model.specs.declared.Kind.{Kind}
 use Rattle.model.specs.declared.Kind.TheVariants.{Header, Predicate, Clause, Var, Con, Goal}
 use Rattle.model.specs.declared.Refusal.TheVariants.{UnknownOp}
-use Rattle.model.specs.declared.Scan.{Scan}
-use Rattle.model.specs.declared.Scan.TheVariants.{Through, Stopped}
+use Rattle.model.specs.Answers.{Scan, refused_at}
 use Rattle.model.specs.Fields.{widths_of, kept_fields}
 use Rattle.model.specs.Spread.{group_size, kind_of_op, kind_at, packed_word, further, judged, op_known, judged_group, scan_from, packed_from}
 use Rattle.spread.specs.GroupLaws.{not_through, through_same, Judged, judged-through}
@@ -39,12 +38,12 @@ module _ (count number at : ℕ) (rest : List ℕ) where
   -- a group that is judged through has a known op, and its values fit
   pub record Group (end : ℕ) : Type 0 where
     pub known : op_known count number (get_or rest 0 0) ≡ true
-    pub through : judged (widths_of (kind_of count number rest)) (kept_fields (kind_of count number rest)) at rest ≡ Through end
+    pub through : judged (widths_of (kind_of count number rest)) (kept_fields (kind_of count number rest)) at rest ≡ Ok end
     pub values : Judged (widths_of (kind_of count number rest)) (kept_fields (kind_of count number rest)) at end rest
     pub ends : end ≡ at + group_size (kind_of count number rest)
     pub long : group_size (kind_of count number rest) ≤ length rest
 
-  pub group-through : (end : ℕ) → judged_group count number at rest ≡ Through end → Group end
+  pub group-through : (end : ℕ) → judged_group count number at rest ≡ Ok end → Group end
   unfolding judged_group group_size
   group-through end e = go (op_known count number (get_or rest 0 0)) refl e
     where
@@ -52,7 +51,7 @@ module _ (count number at : ℕ) (rest : List ℕ) where
       kind = kind_of count number rest
 
       go : (known? : Bool) → op_known count number (get_or rest 0 0) ≡ known?
-          → cond known? (judged (widths_of (kind_of count number rest)) (kept_fields (kind_of count number rest)) at rest) (Stopped UnknownOp at) ≡ Through end → Group end
+          → cond known? (judged (widths_of (kind_of count number rest)) (kept_fields (kind_of count number rest)) at rest) (refused_at UnknownOp at) ≡ Ok end → Group end
       go true q f =
           let j = judged-through (widths_of (kind_of count number rest)) (kept_fields (kind_of count number rest)) at end rest f in
           record { known = q; through = f; values = j; ends = j.ends; long = j.long }
@@ -84,15 +83,15 @@ module _ (count number at : ℕ) (rest : List ℕ) where
   pub record Opened (most words : ℕ) : Type 0 where
     pub end : ℕ
     pub group : Group end
-    pub first : judged_group count number at rest ≡ Through end
-    pub others : scan_after most end ≡ Through words
+    pub first : judged_group count number at rest ≡ Ok end
+    pub others : scan_after most end ≡ Ok words
 
-  pub opened : (most words : ℕ) → 0 < length rest → scan_from (suc most) count number at rest ≡ Through words → Opened most words
+  pub opened : (most words : ℕ) → 0 < length rest → scan_from (suc most) count number at rest ≡ Ok words → Opened most words
   opened most words h e = go (judged_group count number at rest) refl (sym (scan_step most h) ∙ e)
     where
-      go : (found : Scan) → judged_group count number at rest ≡ found → further (scan_after most) found ≡ Through words → Opened most words
-      go (Through end) q f = record { end = end; group = group-through end q; first = q; others = f }
-      go (Stopped refusal place) q f = absurd (not_through f)
+      go : (found : Scan) → judged_group count number at rest ≡ found → further (scan_after most) found ≡ Ok words → Opened most words
+      go (Ok end) q f = record { end = end; group = group-through end q; first = q; others = f }
+      go (Err stop) q f = absurd (not_through f)
 
 -- after a group the list is shorter, so what is left of the fuel is enough
 pub enough : (count number most : ℕ) (rest : List ℕ) → 0 < length rest → length rest ≤ suc most → length (drop (group_size (kind_of count number rest)) rest) ≤ most
@@ -101,7 +100,7 @@ enough count number most rest h l =
     omega (arith, length-drop (group_size (kind_of count number rest)) rest, s.least)
 
 -- the scan counts the packed words
-pub scan-counts : (most count number at words : ℕ) (rest : List ℕ) → length rest ≤ most → scan_from most count number at rest ≡ Through words
+pub scan-counts : (most count number at words : ℕ) (rest : List ℕ) → length rest ≤ most → scan_from most count number at rest ≡ Ok words
     → number + length (packed_from most count number rest) ≡ words
 unfolding scan_from packed_from
 scan-counts zero count number at words rest l e = add-zero number ∙ through_same e

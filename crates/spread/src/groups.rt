@@ -4,19 +4,13 @@ ghost use Rattle.model.specs.Fields.{widths_of, kept_fields};
 ghost use Rattle.model.specs.Spread.{known_op, kind_of_op, kind_at, judged, op_known, judged_group, scan};
 
 use crate::kept::{fits_kept, size_of};
-use model::{Kind, Refusal, Scan};
+use model::{Kind, Refusal, Refused, Scan};
 
 #[tactic(auto, unfolding(model::specs::Spread::known_op))]
 fn known_op(op: u32) -> bool
     ensures { result ≡ known_op op }
 {
-    match op {
-        1 => true,
-        2 => true,
-        8 => true,
-        9 => true,
-        _ => false,
-    }
+    matches!(op, 1 | 2 | 8 | 9)
 }
 
 #[tactic(auto, unfolding(model::specs::Spread::kind_of_op))]
@@ -49,10 +43,7 @@ pub fn kind_at(count: u32, number: usize, op: u32) -> Kind
 fn op_known(count: u32, number: usize, op: u32) -> bool
     ensures { result ≡ op_known count number op }
 {
-    if number <= count as usize {
-        return true;
-    }
-    known_op(op)
+    number <= count as usize || known_op(op)
 }
 
 // The values of one group: 19 at the list's length, 18 at the value.
@@ -61,20 +52,16 @@ fn judge(list: &[u32], kind: Kind, at: usize) -> Scan
     ensures { result ≡ judged (widths_of kind) (kept_fields kind) at (drop at list.now) }
 {
     let size = size_of(kind);
-    let mut place = at;
-    let mut j: usize = 0;
-    while j < size {
+    for j in 0..size {
+        let place = at + j;
         if list.len() <= place {
-            return Scan::Stopped(Refusal::ListEnds, place);
+            return Err(Refused(Refusal::ListEnds, place));
         }
-        let value = list[place];
-        if !fits_kept(value, kind, j) {
-            return Scan::Stopped(Refusal::TooWide, place);
+        if !fits_kept(list[place], kind, j) {
+            return Err(Refused(Refusal::TooWide, place));
         }
-        place += 1;
-        j += 1;
     }
-    Scan::Through(place)
+    Ok(at + size)
 }
 
 // An op is only known or unknown: its width is not judged.
@@ -84,13 +71,13 @@ fn judge_group(list: &[u32], count: u32, number: usize, at: usize) -> Scan
 {
     let first = list[at];
     if !op_known(count, number, first) {
-        return Scan::Stopped(Refusal::UnknownOp, at);
+        return Err(Refused(Refusal::UnknownOp, at));
     }
     let kind = kind_at(count, number, first);
     judge(list, kind, at)
 }
 
-// What is wrong with a list at its first place, or the count of its words.
+// What is wrong with a list at its first place, or the count of its words. Groups have unequal lengths, so their places are not counted.
 pub fn scan_list(list: &[u32]) -> Scan
     ensures { result ≡ scan list.now }
 {
@@ -98,15 +85,8 @@ pub fn scan_list(list: &[u32]) -> Scan
     let mut at: usize = 0;
     let mut number: usize = 0;
     while at < list.len() {
-        match judge_group(list, count, number, at) {
-            Scan::Through(next) => {
-                at = next;
-            }
-            Scan::Stopped(refusal, place) => {
-                return Scan::Stopped(refusal, place);
-            }
-        }
+        at = judge_group(list, count, number, at)?;
         number += 1;
     }
-    Scan::Through(number)
+    Ok(number)
 }

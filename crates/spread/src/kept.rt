@@ -21,155 +21,51 @@ pub fn size_of(kind: Kind) -> usize
     }
 }
 
-fn fits_by_table(value: u32, kind: Kind, j: usize) -> bool
-    ensures { result ≡ ltb value (2 ^ get_or (widths_of kind) (get_or (kept_fields kind) j 0) 0) }
+// What a function of kind and field says of the field at a place.
+#[tactic(auto, unfolding(model::specs::Fields::kept_fields))]
+fn of_kept<R, F: FnOnce(Kind, usize) -> R>(kind: Kind, j: usize, of: F) -> R
+    requires { F.IsAlwaysCallable of }
+    ensures { F.post of kind (get_or (kept_fields kind) j 0) result }
 {
-    words::fits(value, kind, words::kept_field(kind, j))
+    match (kind, j) {
+        (Kind::Header, 0) => of(Kind::Header, 0),
+        (Kind::Header, 1) => of(Kind::Header, 1),
+        (Kind::Header, 2) => of(Kind::Header, 3),
+        (Kind::Predicate, 0) => of(Kind::Predicate, 0),
+        (Kind::Predicate, 1) => of(Kind::Predicate, 1),
+        (Kind::Predicate, 2) => of(Kind::Predicate, 2),
+        (Kind::Predicate, 3) => of(Kind::Predicate, 3),
+        (Kind::Clause, 0) => of(Kind::Clause, 0),
+        (Kind::Clause, 1) => of(Kind::Clause, 1),
+        (Kind::Clause, 2) => of(Kind::Clause, 2),
+        (Kind::Clause, 3) => of(Kind::Clause, 3),
+        (Kind::Var, 0) => of(Kind::Var, 0),
+        (Kind::Var, 1) => of(Kind::Var, 2),
+        (Kind::Con, 0) => of(Kind::Con, 0),
+        (Kind::Con, 1) => of(Kind::Con, 1),
+        (Kind::Goal, 0) => of(Kind::Goal, 0),
+        (Kind::Goal, 1) => of(Kind::Goal, 1),
+        _ => of(kind, words::kept_field(kind, j)),
+    }
 }
 
 // Whether a value is not too wide for the field.
-#[tactic(auto, unfolding(model::specs::Fields::kept_fields))]
 pub fn fits_kept(value: u32, kind: Kind, j: usize) -> bool
     ensures { result ≡ ltb value (2 ^ get_or (widths_of kind) (get_or (kept_fields kind) j 0) 0) }
 {
-    match kind {
-        Kind::Header => match j {
-            0 => words::fits(value, Kind::Header, 0),
-            1 => words::fits(value, Kind::Header, 1),
-            2 => words::fits(value, Kind::Header, 3),
-            _ => fits_by_table(value, kind, j),
-        },
-        Kind::Predicate => match j {
-            0 => words::fits(value, Kind::Predicate, 0),
-            1 => words::fits(value, Kind::Predicate, 1),
-            2 => words::fits(value, Kind::Predicate, 2),
-            3 => words::fits(value, Kind::Predicate, 3),
-            _ => fits_by_table(value, kind, j),
-        },
-        Kind::Clause => match j {
-            0 => words::fits(value, Kind::Clause, 0),
-            1 => words::fits(value, Kind::Clause, 1),
-            2 => words::fits(value, Kind::Clause, 2),
-            3 => words::fits(value, Kind::Clause, 3),
-            _ => fits_by_table(value, kind, j),
-        },
-        Kind::Var => match j {
-            0 => words::fits(value, Kind::Var, 0),
-            1 => words::fits(value, Kind::Var, 2),
-            _ => fits_by_table(value, kind, j),
-        },
-        Kind::Con => match j {
-            0 => words::fits(value, Kind::Con, 0),
-            1 => words::fits(value, Kind::Con, 1),
-            _ => fits_by_table(value, kind, j),
-        },
-        Kind::Goal => match j {
-            0 => words::fits(value, Kind::Goal, 0),
-            1 => words::fits(value, Kind::Goal, 1),
-            _ => fits_by_table(value, kind, j),
-        },
-        _ => fits_by_table(value, kind, j),
-    }
-}
-
-fn placed_by_table(value: u32, kind: Kind, j: usize) -> u32
-    ensures { result ≡ value % 2 ^ get_or (widths_of kind) (get_or (kept_fields kind) j 0) 0 * 2 ^ below (widths_of kind) (get_or (kept_fields kind) j 0) }
-{
-    words::placed(value, kind, words::kept_field(kind, j))
+    of_kept(kind, j, |kind, field| words::fits(value, kind, field))
 }
 
 // A value cut to the field's width, at the field's place.
-#[tactic(auto, unfolding(model::specs::Fields::kept_fields))]
 pub fn placed_kept(value: u32, kind: Kind, j: usize) -> u32
     ensures { result ≡ value % 2 ^ get_or (widths_of kind) (get_or (kept_fields kind) j 0) 0 * 2 ^ below (widths_of kind) (get_or (kept_fields kind) j 0) }
 {
-    match kind {
-        Kind::Header => match j {
-            0 => words::placed(value, Kind::Header, 0),
-            1 => words::placed(value, Kind::Header, 1),
-            2 => words::placed(value, Kind::Header, 3),
-            _ => placed_by_table(value, kind, j),
-        },
-        Kind::Predicate => match j {
-            0 => words::placed(value, Kind::Predicate, 0),
-            1 => words::placed(value, Kind::Predicate, 1),
-            2 => words::placed(value, Kind::Predicate, 2),
-            3 => words::placed(value, Kind::Predicate, 3),
-            _ => placed_by_table(value, kind, j),
-        },
-        Kind::Clause => match j {
-            0 => words::placed(value, Kind::Clause, 0),
-            1 => words::placed(value, Kind::Clause, 1),
-            2 => words::placed(value, Kind::Clause, 2),
-            3 => words::placed(value, Kind::Clause, 3),
-            _ => placed_by_table(value, kind, j),
-        },
-        Kind::Var => match j {
-            0 => words::placed(value, Kind::Var, 0),
-            1 => words::placed(value, Kind::Var, 2),
-            _ => placed_by_table(value, kind, j),
-        },
-        Kind::Con => match j {
-            0 => words::placed(value, Kind::Con, 0),
-            1 => words::placed(value, Kind::Con, 1),
-            _ => placed_by_table(value, kind, j),
-        },
-        Kind::Goal => match j {
-            0 => words::placed(value, Kind::Goal, 0),
-            1 => words::placed(value, Kind::Goal, 1),
-            _ => placed_by_table(value, kind, j),
-        },
-        _ => placed_by_table(value, kind, j),
-    }
-}
-
-fn read_by_table(word: u32, kind: Kind, j: usize) -> u32
-    ensures { result ≡ field (widths_of kind) word (get_or (kept_fields kind) j 0) }
-{
-    words::read(word, kind, words::kept_field(kind, j))
+    of_kept(kind, j, |kind, field| words::placed(value, kind, field))
 }
 
 // The field of a word.
-#[tactic(auto, unfolding(model::specs::Fields::kept_fields))]
 pub fn read_kept(word: u32, kind: Kind, j: usize) -> u32
     ensures { result ≡ field (widths_of kind) word (get_or (kept_fields kind) j 0) }
 {
-    match kind {
-        Kind::Header => match j {
-            0 => words::read(word, Kind::Header, 0),
-            1 => words::read(word, Kind::Header, 1),
-            2 => words::read(word, Kind::Header, 3),
-            _ => read_by_table(word, kind, j),
-        },
-        Kind::Predicate => match j {
-            0 => words::read(word, Kind::Predicate, 0),
-            1 => words::read(word, Kind::Predicate, 1),
-            2 => words::read(word, Kind::Predicate, 2),
-            3 => words::read(word, Kind::Predicate, 3),
-            _ => read_by_table(word, kind, j),
-        },
-        Kind::Clause => match j {
-            0 => words::read(word, Kind::Clause, 0),
-            1 => words::read(word, Kind::Clause, 1),
-            2 => words::read(word, Kind::Clause, 2),
-            3 => words::read(word, Kind::Clause, 3),
-            _ => read_by_table(word, kind, j),
-        },
-        Kind::Var => match j {
-            0 => words::read(word, Kind::Var, 0),
-            1 => words::read(word, Kind::Var, 2),
-            _ => read_by_table(word, kind, j),
-        },
-        Kind::Con => match j {
-            0 => words::read(word, Kind::Con, 0),
-            1 => words::read(word, Kind::Con, 1),
-            _ => read_by_table(word, kind, j),
-        },
-        Kind::Goal => match j {
-            0 => words::read(word, Kind::Goal, 0),
-            1 => words::read(word, Kind::Goal, 1),
-            _ => read_by_table(word, kind, j),
-        },
-        _ => read_by_table(word, kind, j),
-    }
+    of_kept(kind, j, |kind, field| words::read(word, kind, field))
 }

@@ -12,13 +12,8 @@ fn spread_word(word: u32, kind: Kind, at: usize, room: &mut [u32])
     requires { at + group_size kind ≤ length room.old }
     ensures { room.new ≡ sets room.old at (spread_word kind word) }
 {
-    let size = size_of(kind);
-    let mut place = at;
-    let mut j: usize = 0;
-    while j < size {
-        room[place] = read_kept(word, kind, j);
-        place += 1;
-        j += 1;
+    for j in 0..size_of(kind) {
+        room[at + j] = read_kept(word, kind, j);
     }
 }
 
@@ -28,12 +23,8 @@ pub fn spread_size(image: &[u32]) -> usize
 {
     let count = words::predicate_count(words::word_at(image, 0));
     let mut size: usize = 0;
-    let mut i: usize = 0;
-    while i < image.len() {
-        let word = image[i];
-        let kind = kind_at(count, i, words::op(word));
-        size += size_of(kind);
-        i += 1;
+    for (i, &word) in image.iter().enumerate() {
+        size += size_of(kind_at(count, i, words::op(word)));
     }
     size
 }
@@ -44,12 +35,9 @@ pub fn spread_words(image: &[u32], room: &mut [u32])
 {
     let count = words::predicate_count(words::word_at(image, 0));
     let mut at: usize = 0;
-    let mut i: usize = 0;
-    while i < image.len() {
-        let word = image[i];
+    for (i, &word) in image.iter().enumerate() {
         let kind = kind_at(count, i, words::op(word));
         spread_word(word, kind, at, room);
         at += size_of(kind);
-        i += 1;
     }
 }

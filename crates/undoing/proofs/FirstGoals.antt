@@ -2,13 +2,12 @@
 -- condition 21, "has goal, frame and index follow the rules; tried is at most the clause count". Of the check it needs that a legal query has a goal. Assumes nothing.
 use Rattle.std.specs.Prelude.{◌≡◌, Bool, cond, List, leb, get_or}
 use Rattle.std.proofs.Math.Path.{refl, subst}
-use Rattle.std.proofs.Common.{sym}
+use Rattle.std.proofs.Common.{sym, Ok}
 use Rattle.std.proofs.Math.Bool.{true, false}
 use Prim.Native.Nat.{ℕ, zero, suc, ◌+◌, ◌<◌}
 use native.Mathlib.Omega.{arith}
 use Rattle.std.proofs.Math.Dec.{eqb, ltb}
 use borrow.Author.Tests.{eqb-true, eqb-false, ltb-true, leb-true}
-use Rattle.model.specs.declared.Verdict.TheVariants.{Legal}
 use Rattle.model.specs.declared.FirstGoal.{FirstGoal}
 use Rattle.model.specs.declared.FirstGoal.TheVariants.{NoGoal, Goal}
 use Rattle.model.specs.Fields.{variables, clause_count, goal_count}
@@ -22,7 +21,7 @@ use Rattle.paths.proofs.Held.{three-held, four-held}
 use Rattle.paths.proofs.Slots.{slot_held, root-clause}
 use Rattle.undoing.specs.FirstGoals.{Indexed}
 
-module _ (image query : List ℕ) (query_words : Words query) (legal : check_query image query ≡ Legal) (m : Memory) (held : sound image query m ≡ true) where
+module _ (image query : List ℕ) (query_words : Words query) (legal : check_query image query ≡ Ok tt) (m : Memory) (held : sound image query m ≡ true) where
   -- the query has a goal
   root-goals : 0 < goals_of image query m.nodes 0
   root-goals =

@@ -1,12 +1,11 @@
 -- In sound memory every used slot's clause is one of a legal image, or the query for the root; so a first goal stands in its frame's clause and calls a predicate
 -- that is there. Document 01, "Refused calls", condition 21, "a clause position among the tried clauses of the parent's first goal". Assumes nothing.
 use Rattle.std.specs.Prelude.{◌≡◌, refl, Bool, true, false, ℕ, zero, suc, ◌+◌, ◌≤◌, ◌<◌, eqb, length, get_or}
-use Rattle.std.proofs.Common.{sym, ⊎_elim, arith}
+use Rattle.std.proofs.Common.{sym, ⊎_elim, arith, Ok}
 use Rattle.std.proofs.Math.Path.{ap, subst}
 use Rattle.std.proofs.Math.Bool.{cond}
 use mathlib.Core.List.{List}
 use borrow.Author.Tests.{eqb-true, eqb-false, ne_eqb}
-use Rattle.model.specs.declared.Verdict.TheVariants.{Legal}
 use Rattle.model.specs.Fields.{predicate_count, arity, clause_count, first_clause}
 use Rattle.model.specs.Image.{predicate_word, check_query}
 use Rattle.model.specs.Encoding.{Words}
@@ -38,7 +37,7 @@ among_one image (suc left) at position e = go (eqb at position) refl e (among_on
     go true q e rest = (0, omega arith, eqb-true at position q)
     go false q e rest = let r = rest e in (suc r.0, omega (arith, r.1), r.2)
 
-module _ (image query : List ℕ) (image_words : Words image) (query_words : Words query) (legal : check_query image query ≡ Legal) where
+module _ (image query : List ℕ) (image_words : Words image) (query_words : Words query) (legal : check_query image query ≡ Ok tt) where
   -- a clause of the image stands behind the header
   clause-behind : (number k : ℕ) → number < predicate_count (get_or image 0 0) → k < clause_count (predicate_word image number) → 0 < clause_at image number k
   clause-behind number k h l =

@@ -1,9 +1,8 @@
 -- Document 01, rule 7, "Failure: Tried; only that count has changed", for a legal image and query: what the check says of the clause that is taken at a live node
 -- and of the clause that holds the node's first goal, so that nothing is left to suppose but legal words, sound memory and the lengths of the slices. Assumes nothing.
 use Rattle.std.specs.Prelude.{◌≡◌, refl, Bool, true, false, cond, List, ℕ, ◌<◌, eqb, ltb, length, get_or}
-use Rattle.std.proofs.Common.{◌∙◌, arith, eqb-true, ltb-true}
+use Rattle.std.proofs.Common.{◌∙◌, arith, eqb-true, ltb-true, Ok}
 use Rattle.model.specs.declared.Outcome.TheVariants.{Tried}
-use Rattle.model.specs.declared.Verdict.TheVariants.{Legal}
 use Rattle.model.specs.Fields.{clause_count}
 use Rattle.model.specs.Image.{predicate_word, check_query}
 use Rattle.model.specs.Encoding.{Words}
@@ -26,7 +25,7 @@ live-has : (has more : Bool) → cond has more false ≡ true → (has ≡ true)
 live-has true more e = (refl, e)
 live-has false more e = let z : ◌≡◌ {A = ℕ} 0 1 = cc in absurd (omega arith)
 
-module _ (image query : List ℕ) (image_words : Words image) (query_words : Words query) (legal : check_query image query ≡ Legal) (m : Memory) (held : sound image query m ≡ true) where
+module _ (image query : List ℕ) (image_words : Words image) (query_words : Words query) (legal : check_query image query ≡ Ok tt) (m : Memory) (held : sound image query m ≡ true) where
   -- at a live node in a used slot
   node-judged : (node : ℕ) → node < 64 → used m.nodes node ≡ 1 → live image query m.nodes node ≡ true → Judged image query m.nodes node
   unfolding live

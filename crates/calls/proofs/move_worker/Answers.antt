@@ -2,7 +2,7 @@
 use mathlib.Core.Path.{sym, ap, ◌∙◌}
 use Rattle.model.specs.Calls.{move_if, move_call}
 use Rattle.model.specs.Memory.{memory}
-use Rattle.model.specs.declared.Verdict.{Verdict}
+use Rattle.model.specs.Answers.{Verdict}
 use Rattle.calls.proofs.CallLaws.{call-legal, move-legal, move-from}
 use Rattle.calls.proofs.move_worker.Goals as goal
 

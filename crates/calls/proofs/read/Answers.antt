@@ -3,7 +3,7 @@ use mathlib.Core.Path.{sym, ap, ◌∙◌}
 use lib.ListN.{length}
 use Rattle.model.specs.Calls.{read_if, read_call}
 use Rattle.model.specs.Memory.{memory}
-use Rattle.model.specs.declared.Verdict.{Verdict}
+use Rattle.model.specs.Answers.{Verdict}
 use Rattle.calls.proofs.CallLaws.{call-legal, read-legal, read-from}
 use Rattle.calls.proofs.read.Goals as goal
 

@@ -5,7 +5,7 @@ use native.Mathlib.Omega.{arith}
 use native.Mathlib.Nat.{add-sub_cancel_left}
 use Rattle.model.specs.Calls.{run_if, run_call}
 use Rattle.model.specs.Memory.{memory}
-use Rattle.model.specs.declared.Verdict.{Verdict}
+use Rattle.model.specs.Answers.{Verdict}
 use Rattle.calls.proofs.CallLaws.{call-legal, run-from}
 use Rattle.calls.proofs.run.Goals as goal
 

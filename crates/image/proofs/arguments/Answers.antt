@@ -1,29 +1,21 @@
--- `image::arguments` meets its contract. The loop's invariant: what is left to do gives the whole. Assumes nothing.
-use mathlib.Core.Path.{refl, sym, ◌∙◌}
-use native.Mathlib.Omega.{arith}
+-- `image::arguments` meets its contract. Assumes nothing.
+use Rattle.std.proofs.Common.{sym, ◌∙◌}
+use Rattle.std.proofs.lemmas.Result.{err_from_is_err_and}
 use Rattle.image.proofs.WalkLaws.{arguments-end, arguments-turn}
 use Rattle.image.proofs.arguments.Goals as goal
 
-pub loop-left-init : goal.loop-left-init
-loop-left-init c = refl
-
-pub returns-in-Met : goal.returns-in-Met
-returns-in-Met c = let l = c.loop-left in
+pub returns-in_err-at : goal.returns-in_err-at
+returns-in_err-at c = let p = err_from_is_err_and c.from_residual.result c.from_residual.ensures.1 in
+    let l = c.loop in
     let a = c.args in
-    arguments-turn a.words.now a.declared l.left l.at l.seen _ c.loop-left-test.true (sym c.in-Met.is ∙ c.argument.ensures) ∙ l.invariant
+    rw (p.1, p.2) (arguments-turn a.words.now a.declared a.count l.counter l.at l.seen _ c.loop-test.true (sym c.in_err-at.was ∙ c.argument.ensures) ∙ l.invariant)
 
-pub overflow_sub-left : goal.overflow_sub-left
-overflow_sub-left c = omega arith
-
-pub loop-left-smaller : goal.loop-left-smaller
-loop-left-smaller c = omega arith
-
-pub loop-left-preserved : goal.loop-left-preserved
-loop-left-preserved c = let l = c.loop-left in
+pub loop-preserved : goal.loop-preserved
+loop-preserved c = let l = c.loop in
     let a = c.args in
-    arguments-turn a.words.now a.declared l.left l.at l.seen _ c.loop-left-test.true (sym c.in-On.is ∙ c.argument.ensures) ∙ l.invariant
+    arguments-turn a.words.now a.declared a.count l.counter l.at l.seen _ c.loop-test.true (sym c.in_ok-at.was ∙ c.argument.ensures) ∙ l.invariant
 
 pub returns : goal.returns
-returns c = let l = c.loop-left in
+returns c = let l = c.loop in
     let a = c.args in
-    arguments-end a.words.now a.declared l.left l.at l.seen c.loop-left-test.false ∙ l.invariant
+    arguments-end a.words.now a.declared a.count l.counter l.at l.seen c.loop-test.false ∙ l.invariant

@@ -1,7 +1,7 @@
 -- `spread::pack_long` meets its contract. Assumes nothing.
 use mathlib.Core.Path.{ap, ◌∙◌}
 use native.Mathlib.Omega.{arith}
-use Rattle.model.specs.declared.Written.TheVariants.{Refused}
+use Rattle.model.specs.Answers.{refused_at}
 use Rattle.model.specs.declared.Refusal.TheVariants.{Image}
 use Rattle.model.specs.declared.Fault.{Fault}
 use Rattle.model.specs.Spread.{written_to}
@@ -15,4 +15,4 @@ join_group-word-requires c = (first_group c.args.list.now c.args.count (omega (a
 pub returns : goal.returns
 returns c =
     let a = c.args in
-    ap (λ (fault : Fault). written_to (Refused (Image fault) 0) a.room.now) c.long_fault.ensures ∙ pack-long a.list.now a.room.now a.count c.join_group-word.result c.requires.through c.requires.long c.join_group-word.ensures
+    ap (λ (fault : Fault). written_to (refused_at (Image fault) 0) a.room.now) c.long_fault.ensures ∙ pack-long a.list.now a.room.now a.count c.join_group-word.result c.requires.through c.requires.long c.join_group-word.ensures

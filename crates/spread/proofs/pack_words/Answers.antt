@@ -6,7 +6,7 @@ use native.Mathlib.Omega.{arith}
 use lib.Seq.{sets}
 use lib.ListN.{length, drop, set, length-set}
 use Rattle.model.specs.declared.Kind.{Kind}
-use Rattle.model.specs.declared.Scan.TheVariants.{Through}
+use Rattle.std.proofs.Common.{Ok}
 use Rattle.model.specs.Spread.{packed_word, group_size, scan_from, scan, packed_from, packed}
 use Rattle.spread.proofs.AnswerLaws.{filled}
 use Rattle.spread.proofs.StepLaws.{Turn, turn, takes, pack-over, counted, stores-word}
@@ -18,7 +18,7 @@ record Step (count number at most room : ℕ) (list : List ℕ) : Type 0 where
   turns : Turn count number at list most next
   room_for : number < room
 
-step : (count number at most room : ℕ) (list : List ℕ) → at < length list → length list ≤ at + most → scan_from most count number at (drop at list) ≡ Through room
+step : (count number at most room : ℕ) (list : List ℕ) → at < length list → length list ≤ at + most → scan_from most count number at (drop at list) ≡ Ok room
     → Step count number at most room list
 step count number at most room list h fuel e =
     let t = takes count number at list most room h fuel e in
@@ -43,7 +43,7 @@ join_group-word-requires c =
     let l = c.loop-at in
     let i = l.invariant in
     let s = step c.word_at-count.result l.number l.at i.most (length c.args.words.now) c.args.list.now c.loop-at-test.true i.fuel i.scans in
-    rw c.kind_at-kind.ensures (s.turns.through ∙ ap Through s.turns.ends)
+    rw c.kind_at-kind.ensures (s.turns.through ∙ ap Ok s.turns.ends)
 
 pub offset_bounds-words-number : goal.offset_bounds-words-number
 offset_bounds-words-number c =

@@ -3,7 +3,7 @@ use mathlib.Core.Path.{◌≡◌}
 use Prim.Native.Nat.{ℕ, ◌+◌, ◌-◌, ◌≤◌}
 use lib.Seq.{sets}
 use lib.ListN.{length, drop}
-use Rattle.model.specs.declared.Scan.TheVariants.{Through}
+use Rattle.std.proofs.Common.{Ok}
 use Rattle.model.specs.Spread.{scan_from, packed_from, packed}
 use Rattle.spread.proofs.pack_words.Given as goal
 
@@ -13,7 +13,7 @@ invariant-loop-at l = record {
   fuel : length l.list ≤ l.at + most;
   inside : l.at ≤ length l.list;
   as_long : length l.words ≡ length l.initial.words;
-  scans : scan_from most l.count l.number l.at (drop l.at l.list) ≡ Through (length l.initial.words);
+  scans : scan_from most l.count l.number l.at (drop l.at l.list) ≡ Ok (length l.initial.words);
   packs : sets l.words l.number (packed_from most l.count l.number (drop l.at l.list)) ≡ packed l.list;
 }
 

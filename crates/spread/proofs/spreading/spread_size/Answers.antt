@@ -1,9 +1,5 @@
 -- `spread::spreading::spread_size` meets its contract. Assumes nothing.
-use mathlib.Core.Path.{ap, ◌∙◌}
-use Prim.Native.Nat.{ℕ}
-use native.Mathlib.Omega.{arith}
-use native.Mathlib.Nat.{zero-add}
-use lib.ListN.{length, get_or}
+use Rattle.std.proofs.Common.{ap, ◌∙◌, ℕ, arith, zero-add, length, get_or}
 use Rattle.model.specs.Spread.{group_size, kind_at, unpacked_from, unpacked}
 use Rattle.model.specs.Fields.{predicate_count, op}
 use Rattle.spread.specs.ScanLaws.{size-at}
@@ -15,7 +11,6 @@ unfolding unpacked
 loop-i-init c =
     let image = c.args.image.now in
     let e = c.predicate_count-count.ensures ∙ ap predicate_count c.word_at.ensures in record {
-      inside = omega arith;
       most = omega arith;
       left = zero-add (length (unpacked_from c.predicate_count-count.result 0 image)) ∙ ap (λ (n : ℕ). length (unpacked_from n 0 image)) e;
     }
@@ -25,7 +20,7 @@ overflow_add-size c =
     let count = c.predicate_count-count.result in
     let l = c.loop-i in
     let o = op (get_or c.args.image.now l.i 0) in
-    let k = c.kind_at-kind.ensures ∙ ap (kind_at count l.i) c.op.ensures in
+    let k = c.kind_at.ensures ∙ ap (kind_at count l.i) c.op.ensures in
     omega (arith, c.size_of-size.ensures ∙ ap group_size k, (size-at count l.i o).most)
 
 pub loop-i-preserved : goal.loop-i-preserved
@@ -33,9 +28,8 @@ loop-i-preserved c =
     let count = c.predicate_count-count.result in
     let l = c.loop-i in
     let o = op (get_or c.args.image.now l.i 0) in
-    let k = c.kind_at-kind.ensures ∙ ap (kind_at count l.i) c.op.ensures in
+    let k = c.kind_at.ensures ∙ ap (kind_at count l.i) c.op.ensures in
     let g = c.size_of-size.ensures ∙ ap group_size k in record {
-      inside = omega arith;
       most = omega (arith, g, (size-at count l.i o).most);
       left = omega (arith, g, unpack-less count l.i c.args.image.now c.loop-i-test.true, l.invariant.left);
     }

@@ -1,11 +1,7 @@
 -- `spread::spreading::spread_words` meets its contract. Assumes nothing.
-use mathlib.Core.List.{List}
-use mathlib.Core.Path.{refl, sym, ap, ap₂, ◌∙◌}
-use Prim.Native.Nat.{ℕ, ◌+◌}
-use native.Mathlib.Omega.{arith}
-use native.Mathlib.Nat.{zero-add}
-use lib.Seq.{sets, length-sets}
-use lib.ListN.{length, get_or, drop}
+use Rattle.std.proofs.Common.{refl, sym, ap, ap₂, ◌∙◌, List, ℕ, ◌+◌, arith, zero-add, length, get_or, drop}
+use Rattle.std.proofs.lemmas.List.Edits.{sets}
+use Rattle.std.proofs.Math.Seq.{length-sets}
 use Rattle.model.specs.declared.Kind.{Kind}
 use Rattle.model.specs.Spread.{spread_word, group_size, kind_at, unpacked_from, unpacked}
 use Rattle.model.specs.Fields.{predicate_count}
@@ -17,7 +13,6 @@ unfolding unpacked
 loop-i-init c =
     let image = c.args.image.now in
     let e = c.predicate_count-count.ensures ∙ ap predicate_count c.word_at.ensures in record {
-      inside = omega arith;
       as_long = refl;
       left = zero-add (length (unpacked_from c.predicate_count-count.result 0 image)) ∙ ap (λ (n : ℕ). length (unpacked_from n 0 image)) e;
       stores = ap (λ (n : ℕ). sets c.args.room.now 0 (unpacked_from n 0 image)) e;
@@ -46,7 +41,6 @@ loop-i-preserved c =
     let k = c.kind_at-kind.ensures ∙ ap (kind_at count l.i) c.op.ensures in
     let g = c.size_of-at.ensures ∙ ap group_size k in
     let r = c.spread_word.ensures ∙ ap (λ (kind : Kind). sets l.room l.at (spread_word kind word)) k in record {
-      inside = omega arith;
       as_long = ap length c.spread_word.ensures ∙ length-sets l.room l.at (spread_word c.kind_at-kind.result word) ∙ l.invariant.as_long;
       left = omega (arith, g, unpack-less count l.i image c.loop-i-test.true, l.invariant.left);
       stores = ap₂ (λ (n : ℕ) (left : List ℕ). sets left (l.at + n) (unpacked_from count (l.i + 1) (drop (l.i + 1) image))) g r
