@@ -5,10 +5,11 @@ ghost use Rattle.std.specs.Prelude.{◌≡◌, length};
 ghost use Rattle.model.specs.Memory.{memory};
 ghost use Rattle.model.specs.Calls.{lengths_right, load_refusal, call_refusal, loaded_to, load_call, step_called, step_call, run_called, run_call, move_refusal, move_called, move_call, read_refusal, read_called, read_call};
 
-use model::{MoveAnswer, Refusal, RunAnswer, StepAnswer, Verdict, Written};
+use model::{MoveAnswer, Refusal, Refused, RunAnswer, StepAnswer, Verdict, Written};
 
 const WORKERS: u32 = 4;
 
+#[tactic(auto, unfolding(model::specs::Calls::lengths_right))]
 fn lengths_right(
     nodes: &[u32],
     cells: &[u32],
@@ -18,22 +19,15 @@ fn lengths_right(
 ) -> bool
     ensures { result ≡ lengths_right (memory nodes.now cells.now trail.now arrays.now workers.now) }
 {
-    if nodes.len() != 256 {
-        return false;
-    }
-    if cells.len() != 2048 {
-        return false;
-    }
-    if trail.len() != 2048 {
-        return false;
-    }
-    if arrays.len() != 8192 {
-        return false;
-    }
-    workers.len() == 4
+    nodes.len() == 256
+        && cells.len() == 2048
+        && trail.len() == 2048
+        && arrays.len() == 8192
+        && workers.len() == 4
 }
 
 // 20, then the image, then the query.
+#[tactic(auto, unfolding(model::specs::Calls::load_refusal))]
 fn load_refusal(
     image: &[u32],
     query: &[u32],
@@ -46,12 +40,13 @@ fn load_refusal(
     ensures { result ≡ load_refusal image.now query.now (memory nodes.now cells.now trail.now arrays.now workers.now) }
 {
     if !lengths_right(nodes, cells, trail, arrays, workers) {
-        return Verdict::Refused(Refusal::SliceLength, 0);
+        return Err(Refused(Refusal::SliceLength, 0));
     }
     image::check_query(image, query)
 }
 
 // 20, image, query, 21, 22.
+#[tactic(auto, unfolding(model::specs::Calls::call_refusal))]
 fn call_refusal<'a>(
     image: &'a [u32],
     query: &'a [u32],
@@ -64,22 +59,18 @@ fn call_refusal<'a>(
 ) -> Verdict
     ensures { result ≡ call_refusal image.now query.now (memory nodes.now cells.now trail.now arrays.now workers.now) worker }
 {
-    if let Verdict::Refused(refusal, at) = load_refusal(
-        image, query, nodes, cells, trail, arrays, workers,
-    ) {
-        return Verdict::Refused(refusal, at);
-    }
-    let whole = audit::sound(image, query, nodes, cells, trail, arrays, workers);
-    if !whole {
-        return Verdict::Refused(Refusal::Damaged, 0);
+    load_refusal(image, query, nodes, cells, trail, arrays, workers)?;
+    if !audit::sound(image, query, nodes, cells, trail, arrays, workers) {
+        return Err(Refused(Refusal::Damaged, 0));
     }
     if WORKERS <= worker {
-        return Verdict::Refused(Refusal::NoWorker, 0);
+        return Err(Refused(Refusal::NoWorker, 0));
     }
-    Verdict::Legal
+    Ok(())
 }
 
 // Sets memory afresh for a legal image and query.
+#[tactic(auto, unfolding(model::specs::Calls::load_call, model::specs::Calls::load_if))]
 pub fn load(
     image: &[u32],
     query: &[u32],
@@ -91,16 +82,13 @@ pub fn load(
 ) -> Verdict
     ensures { loaded_to result (memory nodes.new cells.new trail.new arrays.new workers.new) ≡ load_call image.now query.now (memory nodes.old cells.old trail.old arrays.old workers.old) }
 {
-    match load_refusal(image, query, nodes, cells, trail, arrays, workers) {
-        Verdict::Refused(refusal, at) => Verdict::Refused(refusal, at),
-        Verdict::Legal => {
-            moves::load(query, nodes, cells, trail, arrays, workers);
-            Verdict::Legal
-        }
-    }
+    load_refusal(image, query, nodes, cells, trail, arrays, workers)?;
+    moves::load(query, nodes, cells, trail, arrays, workers);
+    Ok(())
 }
 
 // A step by a worker.
+#[tactic(auto, unfolding(model::specs::Calls::step_call, model::specs::Calls::step_if))]
 pub fn step<'a>(
     image: &'a [u32],
     query: &'a [u32],
@@ -113,27 +101,24 @@ pub fn step<'a>(
 ) -> StepAnswer
     ensures { step_called result (memory nodes.new cells.new trail.new arrays.new workers.new) ≡ step_call image.now query.now (memory nodes.old cells.old trail.old arrays.old workers.old) worker }
 {
-    match call_refusal(image, query, nodes, cells, trail, arrays, workers, worker) {
-        Verdict::Refused(refusal, at) => StepAnswer::Refused(refusal, at),
-        Verdict::Legal => {
-            let base = 2048 * worker as usize;
-            let end = base + 2048;
-            let outcome = engine::step(
-                image,
-                query,
-                nodes,
-                cells,
-                trail,
-                &mut arrays[base..end],
-                workers,
-                worker,
-            );
-            StepAnswer::Done(outcome, words::word_at(workers, worker as usize))
-        }
-    }
+    call_refusal(image, query, nodes, cells, trail, arrays, workers, worker)?;
+    let base = 2048 * worker as usize;
+    let end = base + 2048;
+    let outcome = engine::step(
+        image,
+        query,
+        nodes,
+        cells,
+        trail,
+        &mut arrays[base..end],
+        workers,
+        worker,
+    );
+    Ok((outcome, words::word_at(workers, worker as usize)))
 }
 
 // A run of steps by a worker.
+#[tactic(auto, unfolding(model::specs::Calls::run_call, model::specs::Calls::run_if))]
 pub fn run<'a>(
     image: &'a [u32],
     query: &'a [u32],
@@ -147,30 +132,26 @@ pub fn run<'a>(
 ) -> RunAnswer
     ensures { run_called result (memory nodes.new cells.new trail.new arrays.new workers.new) ≡ run_call image.now query.now (memory nodes.old cells.old trail.old arrays.old workers.old) worker budget }
 {
-    match call_refusal(image, query, nodes, cells, trail, arrays, workers, worker) {
-        Verdict::Refused(refusal, at) => RunAnswer::Refused(refusal, at),
-        Verdict::Legal => {
-            let base = 2048 * worker as usize;
-            let end = base + 2048;
-            let ended = engine::run(
-                image,
-                query,
-                nodes,
-                cells,
-                trail,
-                &mut arrays[base..end],
-                workers,
-                worker,
-                budget,
-            );
-            let outcome = ended.outcome;
-            let count = ended.count;
-            RunAnswer::Done(outcome, words::word_at(workers, worker as usize), count)
-        }
-    }
+    call_refusal(image, query, nodes, cells, trail, arrays, workers, worker)?;
+    let base = 2048 * worker as usize;
+    let end = base + 2048;
+    let ended = engine::run(
+        image,
+        query,
+        nodes,
+        cells,
+        trail,
+        &mut arrays[base..end],
+        workers,
+        worker,
+        budget,
+    );
+    let slot = words::word_at(workers, worker as usize);
+    Ok((ended.outcome, slot, ended.count))
 }
 
 // 20 to 22, then 23: a slot above 63, or free.
+#[tactic(auto, unfolding(model::specs::Calls::move_refusal))]
 fn move_refusal<'a>(
     image: &'a [u32],
     query: &'a [u32],
@@ -184,21 +165,15 @@ fn move_refusal<'a>(
 ) -> Verdict
     ensures { result ≡ move_refusal image.now query.now (memory nodes.now cells.now trail.now arrays.now workers.now) worker slot }
 {
-    if let Verdict::Refused(refusal, at) = call_refusal(
-        image, query, nodes, cells, trail, arrays, workers, worker,
-    ) {
-        return Verdict::Refused(refusal, at);
+    call_refusal(image, query, nodes, cells, trail, arrays, workers, worker)?;
+    if 64 <= slot || memory::used(nodes, slot) != 1 {
+        return Err(Refused(Refusal::NoSlot, 0));
     }
-    if 64 <= slot {
-        return Verdict::Refused(Refusal::NoSlot, 0);
-    }
-    if memory::used(nodes, slot) != 1 {
-        return Verdict::Refused(Refusal::NoSlot, 0);
-    }
-    Verdict::Legal
+    Ok(())
 }
 
 // Takes a worker to a used slot.
+#[tactic(auto, unfolding(model::specs::Calls::move_call, model::specs::Calls::move_if))]
 pub fn move_worker<'a>(
     image: &'a [u32],
     query: &'a [u32],
@@ -212,17 +187,14 @@ pub fn move_worker<'a>(
 ) -> MoveAnswer
     ensures { move_called result (memory nodes.now cells.now trail.now arrays.new workers.new) ≡ move_call image.now query.now (memory nodes.now cells.now trail.now arrays.old workers.old) worker slot }
 {
-    match move_refusal(
+    move_refusal(
         image, query, nodes, cells, trail, arrays, workers, worker, slot,
-    ) {
-        Verdict::Refused(refusal, at) => MoveAnswer::Refused(refusal, at),
-        Verdict::Legal => MoveAnswer::Done(moves::move_to(
-            nodes, trail, arrays, workers, worker, slot,
-        )),
-    }
+    )?;
+    Ok(moves::move_to(nodes, trail, arrays, workers, worker, slot))
 }
 
 // 20 to 22, then 25: a goal remains; then 26: less room than the query has variables.
+#[tactic(auto, unfolding(model::specs::Calls::read_refusal))]
 fn read_refusal<'a>(
     image: &'a [u32],
     query: &'a [u32],
@@ -236,21 +208,18 @@ fn read_refusal<'a>(
 ) -> Verdict
     ensures { result ≡ read_refusal image.now query.now (memory nodes.now cells.now trail.now arrays.now workers.now) worker room }
 {
-    if let Verdict::Refused(refusal, at) = call_refusal(
-        image, query, nodes, cells, trail, arrays, workers, worker,
-    ) {
-        return Verdict::Refused(refusal, at);
-    }
+    call_refusal(image, query, nodes, cells, trail, arrays, workers, worker)?;
     if memory::has_goal(nodes, words::word_at(workers, worker as usize)) == 1 {
-        return Verdict::Refused(Refusal::NoAnswer, 0);
+        return Err(Refused(Refusal::NoAnswer, 0));
     }
     if room < words::variables(words::word_at(query, 0)) as usize {
-        return Verdict::Refused(Refusal::Room, 0);
+        return Err(Refused(Refusal::Room, 0));
     }
-    Verdict::Legal
+    Ok(())
 }
 
 // Writes the answer at a node without goals into a room.
+#[tactic(auto, unfolding(model::specs::Calls::read_call, model::specs::Calls::read_if))]
 pub fn read<'a>(
     image: &'a [u32],
     query: &'a [u32],
@@ -264,7 +233,7 @@ pub fn read<'a>(
 ) -> Written
     ensures { read_called result room.new ≡ read_call image.now query.now (memory nodes.now cells.now trail.now arrays.now workers.now) worker room.old }
 {
-    match read_refusal(
+    read_refusal(
         image,
         query,
         nodes,
@@ -274,8 +243,6 @@ pub fn read<'a>(
         workers,
         worker,
         room.len(),
-    ) {
-        Verdict::Refused(refusal, at) => Written::Refused(refusal, at),
-        Verdict::Legal => Written::Done(moves::read_answer(query, cells, arrays, worker, room)),
-    }
+    )?;
+    Ok(moves::read_answer(query, cells, arrays, worker, room))
 }
