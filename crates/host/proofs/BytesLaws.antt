@@ -22,19 +22,6 @@ use Rattle.image.specs.Positions.{check_image-position}
 use Rattle.image.specs.LongImages.{check_image-long}
 use Rattle.host.specs.Near.{Near}
 
-words_from-snoc : (bytes : List ℕ) (count k : ℕ) → words_from bytes (suc count) k ≡ words_from bytes count k ++ (word_of_bytes bytes (k + count) ∷ [])
-unfolding words_from
-words_from-snoc bytes zero k = rw (add-zero k) refl
-words_from-snoc bytes (suc count) k =
-    let e : suc k + count ≡ k + suc count = omega arith in
-    ap (λ (l : List ℕ). word_of_bytes bytes k ∷ l) (rw e at (words_from-snoc bytes count (suc k)))
-
--- storing word k behind the first k
-pub words_from-store : (bytes words : List ℕ) (k word : ℕ) → k < length words → word ≡ word_of_bytes bytes k → take k words ≡ words_from bytes k 0
-    → take (k + 1) (set words k word) ≡ words_from bytes (k + 1) 0
-words_from-store bytes words k word h e t =
-    rw (add-one k) (take-suc-set words k word h ∙ ap₂ (λ (l : List ℕ) (w : ℕ). l ++ (w ∷ [])) t (e ∙ ap (word_of_bytes bytes) (omega arith)) ∙ sym (words_from-snoc bytes k 0))
-
 pub length-words_from : (bytes : List ℕ) (count k : ℕ) → length (words_from bytes count k) ≡ count
 unfolding words_from
 length-words_from bytes zero k = refl

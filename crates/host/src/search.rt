@@ -5,7 +5,6 @@ ghost use Rattle.model.specs.Calls.{load_call, step_call, run_call, move_call, r
 ghost use Rattle.host.specs.Answers.{called, filled, of_load, of_step, of_run, of_move, of_read};
 
 use crate::Answer;
-use crate::answers::{of_check, of_move, of_run, of_step, of_written};
 
 // Sets memory afresh for a legal image and query.
 pub fn cumbwael_load(
@@ -19,7 +18,7 @@ pub fn cumbwael_load(
 ) -> Answer
     ensures { called result (memory nodes.new cells.new trail.new arrays.new workers.new) ≡ of_load (load_call image.now query.now (memory nodes.old cells.old trail.old arrays.old workers.old)) }
 {
-    of_check(calls::load(image, query, nodes, cells, trail, arrays, workers))
+    Answer::from(calls::load(image, query, nodes, cells, trail, arrays, workers))
 }
 
 // A step by a worker.
@@ -35,7 +34,7 @@ pub fn cumbwael_step<'a>(
 ) -> Answer
     ensures { called result (memory nodes.new cells.new trail.new arrays.new workers.new) ≡ of_step (step_call image.now query.now (memory nodes.old cells.old trail.old arrays.old workers.old) worker) }
 {
-    of_step(calls::step(image, query, nodes, cells, trail, arrays, workers, worker))
+    Answer::from(calls::step(image, query, nodes, cells, trail, arrays, workers, worker))
 }
 
 // A run of steps by a worker.
@@ -52,7 +51,7 @@ pub fn cumbwael_run<'a>(
 ) -> Answer
     ensures { called result (memory nodes.new cells.new trail.new arrays.new workers.new) ≡ of_run (run_call image.now query.now (memory nodes.old cells.old trail.old arrays.old workers.old) worker budget) }
 {
-    of_run(calls::run(
+    Answer::from(calls::run(
         image, query, nodes, cells, trail, arrays, workers, worker, budget,
     ))
 }
@@ -71,7 +70,7 @@ pub fn cumbwael_move<'a>(
 ) -> Answer
     ensures { called result (memory nodes.now cells.now trail.now arrays.new workers.new) ≡ of_move (move_call image.now query.now (memory nodes.now cells.now trail.now arrays.old workers.old) worker slot) }
 {
-    of_move(calls::move_worker(
+    Answer::from(calls::move_worker(
         image, query, nodes, cells, trail, arrays, workers, worker, slot,
     ))
 }
@@ -90,7 +89,7 @@ pub fn cumbwael_read<'a>(
 ) -> Answer
     ensures { filled result room.new ≡ of_read (read_call image.now query.now (memory nodes.now cells.now trail.now arrays.now workers.now) worker room.old) }
 {
-    of_written(calls::read(
+    Answer::from(calls::read(
         image, query, nodes, cells, trail, arrays, workers, worker, room,
     ))
 }

@@ -4,4 +4,4 @@ use Rattle.host.specs.Answers.{answer_of_check}
 use Rattle.host.proofs.cumbwael_check_query.Goals as goal
 
 pub returns : goal.returns
-returns c = c.of_check.ensures ∙ ap answer_of_check c.check_query.ensures
+returns c = c.from.ensures ∙ ap answer_of_check c.check_query.ensures

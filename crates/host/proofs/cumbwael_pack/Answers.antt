@@ -3,4 +3,4 @@ use Rattle.host.proofs.AnswerLaws.{writing-said}
 use Rattle.host.proofs.cumbwael_pack.Goals as goal
 
 pub returns : goal.returns
-returns c = writing-said _ _ _ _ c.of_written.ensures c.pack.ensures
+returns c = writing-said _ _ _ _ c.from.ensures c.pack.ensures

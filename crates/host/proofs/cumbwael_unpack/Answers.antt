@@ -3,4 +3,4 @@ use Rattle.host.proofs.AnswerLaws.{writing-said}
 use Rattle.host.proofs.cumbwael_unpack.Goals as goal
 
 pub returns : goal.returns
-returns c = writing-said _ _ _ _ c.of_written.ensures c.unpack.ensures
+returns c = writing-said _ _ _ _ c.from.ensures c.unpack.ensures

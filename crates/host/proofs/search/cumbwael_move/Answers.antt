@@ -3,4 +3,4 @@ use Rattle.host.proofs.AnswerLaws.{move-said}
 use Rattle.host.proofs.search.cumbwael_move.Goals as goal
 
 pub returns : goal.returns
-returns c = move-said _ _ _ _ c.of_move.ensures c.move_worker.ensures
+returns c = move-said _ _ _ _ c.from.ensures c.move_worker.ensures

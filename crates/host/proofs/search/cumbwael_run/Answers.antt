@@ -3,4 +3,4 @@ use Rattle.host.proofs.AnswerLaws.{run-said}
 use Rattle.host.proofs.search.cumbwael_run.Goals as goal
 
 pub returns : goal.returns
-returns c = run-said _ _ _ _ c.of_run.ensures c.run.ensures
+returns c = run-said _ _ _ _ c.from.ensures c.run.ensures
