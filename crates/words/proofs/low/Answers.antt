@@ -1,5 +1,5 @@
 -- `words::low` meets its contract. Assumes nothing.
-use Rattle.std.proofs.Common.{◌≡◌, ◌+◌, ◌-◌, ap, sym, ◌∙◌, arith}
+use Rattle.std.proofs.Common.{◌≡◌, ◌+◌, ◌-◌, ap, ◌∙◌, arith}
 use Rattle.model.specs.Fields.{widths_of, below}
 use Rattle.words.proofs.FieldLaws.{below-back}
 use Rattle.words.proofs.TableLaws.{row-of, within}
