@@ -1,5 +1,5 @@
 -- One turn of each loop over memory words: stores in a row, entries of a trail, a search from a number on, a walk up. Assumes nothing.
-use mathlib.Core.Path.{◌≡◌, refl, sym, ap, ◌∙◌}
+use mathlib.Core.Path.{◌≡◌, refl, ap, ◌∙◌}
 use mathlib.Core.Bool.{Bool, true, false, not, ◌&&◌}
 use mathlib.Core.List.{List}
 use Prim.Native.Nat.{ℕ, zero, suc, ◌+◌, ◌-◌, ◌*◌, ◌≤◌, ◌<◌}
@@ -83,56 +83,38 @@ each_holds test (suc count) at e k h = go (test at) refl k h e (each_holds test 
     go true q (suc k) h e rest = ap test (let s : at + suc k ≡ at + 1 + k = omega arith in s) ∙ rest e k (omega arith)
     go false q k h e rest = let z : ◌≡◌ {A = ℕ} 0 1 = cc in absurd (omega arith)
 
--- a search among so many from a number on
-module _ (from : ℕ → ℕ → Bool) (test : ℕ → Bool) (none : (k : ℕ) → from 0 k ≡ false)
-    (more : (left k : ℕ) → from (suc left) k ≡ elim (test k) [ true ↦ true | false ↦ from left (k + 1) ]) where
-  search-end : (left k : ℕ) → left ≤ 0 → false ≡ from left k
-  search-end zero k h = sym (none k)
-  search-end (suc left) k h = absurd (omega arith)
-
-  search-hit : (left k : ℕ) → 0 < left → test k ≡ true → true ≡ from left k
-  search-hit zero k h e = absurd (omega arith)
-  search-hit (suc left) k h e = sym (more left k ∙ ap (λ (t : Bool). elim t [ true ↦ true | false ↦ from left (k + 1) ]) e)
-
-  search-miss : (left k : ℕ) → 0 < left → test k ≡ false → from (left - 1) (k + 1) ≡ from left k
-  search-miss zero k h e = absurd (omega arith)
-  search-miss (suc left) k h e =
-      let s : suc left - 1 ≡ left = omega arith in
-      rw s (sym (more left k ∙ ap (λ (t : Bool). elim t [ true ↦ true | false ↦ from left (k + 1) ]) e))
-
+-- a node's child, and another worker at a node: none left to look at, one found, one passed
 module _ (nodes : List ℕ) (node : ℕ) where
-  abbrev child_test : ℕ → Bool
+  abbrev pub child_test : ℕ → Bool
   child_test slot = eqb (used nodes slot) 1 && eqb (parent nodes slot) node
 
-  pub child_from-end : (left slot : ℕ) → left ≤ 0 → false ≡ child_from left nodes node slot
+  pub child_from-none : (slot : ℕ) → child_from 0 nodes node slot ≡ false
   unfolding child_from
-  child_from-end = search-end (λ n. child_from n nodes node) child_test (λ k. refl) (λ n k. refl)
+  child_from-none slot = refl
 
-  pub child_from-hit : (left slot : ℕ) → 0 < left → (eqb (used nodes slot) 1 && eqb (parent nodes slot) node) ≡ true → true ≡ child_from left nodes node slot
+  pub child_from-hit : (left slot : ℕ) → child_test slot ≡ true → child_from (suc left) nodes node slot ≡ true
   unfolding child_from
-  child_from-hit = search-hit (λ n. child_from n nodes node) child_test (λ k. refl) (λ n k. refl)
+  child_from-hit left slot e = rw (e, child_from) refl
 
-  pub child_from-miss : (left slot : ℕ) → 0 < left → (eqb (used nodes slot) 1 && eqb (parent nodes slot) node) ≡ false
-      → child_from (left - 1) nodes node (slot + 1) ≡ child_from left nodes node slot
+  pub child_from-miss : (left slot : ℕ) → child_test slot ≡ false → child_from (suc left) nodes node slot ≡ child_from left nodes node (slot + 1)
   unfolding child_from
-  child_from-miss = search-miss (λ n. child_from n nodes node) child_test (λ k. refl) (λ n k. refl)
+  child_from-miss left slot e = rw (e, child_from) refl
 
 module _ (workers : List ℕ) (worker node : ℕ) where
-  abbrev worker_test : ℕ → Bool
+  abbrev pub worker_test : ℕ → Bool
   worker_test other = not (eqb other worker) && eqb (get_or workers other 0) node
 
-  pub another_from-end : (left other : ℕ) → left ≤ 0 → false ≡ another_from left workers worker node other
+  pub another_from-none : (other : ℕ) → another_from 0 workers worker node other ≡ false
   unfolding another_from
-  another_from-end = search-end (λ n. another_from n workers worker node) worker_test (λ k. refl) (λ n k. refl)
+  another_from-none other = refl
 
-  pub another_from-hit : (left other : ℕ) → 0 < left → (not (eqb other worker) && eqb (get_or workers other 0) node) ≡ true → true ≡ another_from left workers worker node other
+  pub another_from-hit : (left other : ℕ) → worker_test other ≡ true → another_from (suc left) workers worker node other ≡ true
   unfolding another_from
-  another_from-hit = search-hit (λ n. another_from n workers worker node) worker_test (λ k. refl) (λ n k. refl)
+  another_from-hit left other e = rw (e, another_from) refl
 
-  pub another_from-miss : (left other : ℕ) → 0 < left → (not (eqb other worker) && eqb (get_or workers other 0) node) ≡ false
-      → another_from (left - 1) workers worker node (other + 1) ≡ another_from left workers worker node other
+  pub another_from-miss : (left other : ℕ) → worker_test other ≡ false → another_from (suc left) workers worker node other ≡ another_from left workers worker node (other + 1)
   unfolding another_from
-  another_from-miss = search-miss (λ n. another_from n workers worker node) worker_test (λ k. refl) (λ n k. refl)
+  another_from-miss left other e = rw (e, another_from) refl
 
 pub free_from-end : (nodes : List ℕ) (left slot : ℕ) → left ≤ 0 → slot ≡ free_from left nodes slot
 unfolding free_from

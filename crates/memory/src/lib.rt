@@ -276,50 +276,26 @@ pub fn climb_undo(
 pub fn has_child(nodes: &[u32], node: u32) -> bool
     ensures { result ≡ child_from 63 nodes.now node 1 }
 {
-    let mut slot: u32 = 1;
-    let mut left: u32 = 63;
-    while 0 < left {
-        if is_child(nodes, node, slot) {
-            return true;
-        }
-        slot += 1;
-        left -= 1;
-    }
-    false
+    (1..64).any(|slot| is_child(nodes, node, slot))
 }
 
 fn is_child(nodes: &[u32], node: u32, slot: u32) -> bool
     ensures { result ≡ (eqb (used nodes.now slot) 1 && eqb (parent nodes.now slot) node) }
 {
-    if used(nodes, slot) != 1 {
-        return false;
-    }
-    parent(nodes, slot) == node
+    used(nodes, slot) == 1 && parent(nodes, slot) == node
 }
 
 // Does another worker stand at a node.
 pub fn another_there(workers: &[u32], worker: u32, node: u32) -> bool
     ensures { result ≡ another_from 4 workers.now worker node 0 }
 {
-    let mut other: u32 = 0;
-    let mut left: u32 = 4;
-    while 0 < left {
-        if is_there(workers, worker, node, other) {
-            return true;
-        }
-        other += 1;
-        left -= 1;
-    }
-    false
+    (0..4).any(|other| is_there(workers, worker, node, other))
 }
 
 fn is_there(workers: &[u32], worker: u32, node: u32, other: u32) -> bool
     ensures { result ≡ (not (eqb other worker) && eqb (get_or workers.now other 0) node) }
 {
-    if other == worker {
-        return false;
-    }
-    words::word_at(workers, other as usize) == node
+    other != worker && words::word_at(workers, other as usize) == node
 }
 
 // The lowest free slot, 64 where all are used.
