@@ -87,6 +87,7 @@ pub fn tried(nodes: &[u32], slot: u32) -> u32
 }
 
 // A value: tag and value.
+#[tactic(auto, unfolding(model::specs::Memory::word_of, model::specs::Memory::cut_to, model::specs::Fields::join, model::specs::Fields::widths_of, model::specs::Fields::total, model::specs::Fields::below))]
 pub fn value_word(tag: u32, value: u32) -> u32
     ensures { result ≡ word_of Value (tag ∷ value ∷ []) }
 {
@@ -94,6 +95,7 @@ pub fn value_word(tag: u32, value: u32) -> u32
 }
 
 // Node word 0 of a used slot.
+#[tactic(auto, unfolding(model::specs::Memory::word_of, model::specs::Memory::cut_to, model::specs::Fields::join, model::specs::Fields::widths_of, model::specs::Fields::total, model::specs::Fields::below))]
 pub fn node0(parent: u32, depth: u32, entries: u32, variables: u32) -> u32
     ensures { result ≡ word_of Node0 (1 ∷ parent ∷ depth ∷ entries ∷ variables ∷ 0 ∷ []) }
 {
@@ -103,12 +105,14 @@ pub fn node0(parent: u32, depth: u32, entries: u32, variables: u32) -> u32
     above + words::placed(entries, Kind::Node0, 3) + words::placed(variables, Kind::Node0, 4)
 }
 
+#[tactic(auto, unfolding(model::specs::Memory::word_of, model::specs::Memory::cut_to, model::specs::Fields::join, model::specs::Fields::widths_of, model::specs::Fields::total, model::specs::Fields::below))]
 pub fn node1(base: u32, position: u32) -> u32
     ensures { result ≡ word_of Node1 (base ∷ 0 ∷ position ∷ []) }
 {
     words::placed(base, Kind::Node1, 0) + words::placed(position, Kind::Node1, 2)
 }
 
+#[tactic(auto, unfolding(model::specs::Memory::word_of, model::specs::Memory::cut_to, model::specs::Fields::join, model::specs::Fields::widths_of, model::specs::Fields::total, model::specs::Fields::below))]
 pub fn node2(goal: u32, frame: u32, index: u32, tried: u32) -> u32
     ensures { result ≡ word_of Node2 (goal ∷ frame ∷ index ∷ tried ∷ 0 ∷ []) }
 {

@@ -1,5 +1,5 @@
 -- `memory::clear` meets its contract. Assumes nothing.
-use Rattle.std.proofs.Common.{rules, ◌-◌}
+use Rattle.std.proofs.Common.{rules}
 use Rattle.memory.proofs.LoopLaws.{cleared-none, cleared-filled}
 use Rattle.memory.proofs.clear.Goals as goal
 

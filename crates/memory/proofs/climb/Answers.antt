@@ -16,7 +16,7 @@ loop-preserved g c = let l = c.loop in let a = c.args in
     let e = c.entries-here.ensures in record {
       room = omega (arith, e, entries-lt a.nodes.now l.slot, l.invariant.room, c.loop-test.true);
       whole = climbed-turn g.L.Leg.change a.nodes.now a.trail.now a.ancestor a.most l.counter l.slot l.count c.entries-here.result c.parent-slot.result l.array c.apply.new.array c.loop-test.true
-          c.if-slot-ancestor.false e c.parent-slot.ensures c.apply.ensures ∙ l.invariant.whole
+          c.if-slot-ancestor.false e c.parent-slot.ensures c.apply.ensures ∙ l.invariant.whole;
     }
 
 pub returns : goal.returns
