@@ -1,6 +1,6 @@
 -- What `all`, `any` and `find` over a range of numbers give, as definitions say it that go from a number on, one number at a turn. Assumes nothing.
 -- A definition `from left k` looks at so many numbers from k on. Its equations are given: none left, a number that passes, a number that does not.
-use Rattle.std.proofs.Common.{◌≡◌, refl, sym, ap, subst, ◌∙◌, ℕ, zero, suc, ◌+◌, ◌-◌, ◌≤◌, ◌<◌, List, length, Bool, true, false, Option, Some, None, arith, Bor, eqb}
+use Rattle.std.proofs.Common.{◌≡◌, refl, sym, ap, ap₂, subst, ◌∙◌, ℕ, zero, suc, ◌+◌, ◌-◌, ◌≤◌, ◌<◌, List, length, Bool, true, false, Option, Some, None, arith, Bor, eqb}
 use Rattle.std.proofs.iter.Yields.{nat_range_steps}
 use Rattle.std.proofs.lemmas.Bool.{true≢false, false≢true}
 use Rattle.std.proofs.lemmas.Iterator.{cases_from_all, cases_from_any, first_from_Range, YieldsList-from_range}
@@ -44,6 +44,13 @@ module _ (test : ℕ → Bool) where
       go : (b : Bool) → test k ≡ b → (((k ≡ j) → ⊥) → each count test (k + 1) ≡ false) → each (suc count) test k ≡ false
       go true t rest = each-step count k t ∙ rest (λ q. true≢false (sym t ∙ ap test q ∙ e))
       go false f rest = each-stop count k f
+
+  -- two tests that agree on the numbers
+  pub each-same : (other : ℕ → Bool) (count k : ℕ) → ((j : ℕ) → k ≤ j → j < k + count → test j ≡ other j) → each count test k ≡ each count other k
+  unfolding each
+  each-same other zero k h = refl
+  each-same other (suc count) k h =
+      ap₂ (λ (t rest : Bool). elim t [ true ↦ rest | false ↦ false ]) (h k (omega arith) (omega arith)) (each-same other count (k + 1) (λ j l u. h j (omega arith) (omega arith)))
 
   each-from : (r : Bool) (a n : ℕ) → MatchBool r (AllWithin (λ k. test k ≡ true) (range_with_len a n) 0 (length (range_with_len a n)))
       ((k : ℕ) × (k < length (range_with_len a n)) × HoldsAt (λ k. test k ≡ false) (range_with_len a n) k) → r ≡ each n test a
