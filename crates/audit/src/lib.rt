@@ -6,36 +6,30 @@ ghost use Rattle.model.specs.Fields.{variables};
 ghost use Rattle.model.specs.Memory.{memory, array_of};
 ghost use Rattle.model.specs.Damage.{each, zero_fields, free_zero, among_clauses, root_sound, called_word, linked, clause_of, rule_goal, without_goal, with_goal, goal_sound, base_sound, node_sound, slot_linked, slot_sound, path_array, same_words, worker_sound, sound};
 
+use memory::PutIn;
 use model::{FirstGoal, Kind};
 
 // A slot's zero fields are 0.
+#[tactic(auto, unfolding(model::specs::Damage::zero_fields))]
 fn zero_fields(nodes: &[u32], slot: u32) -> bool
     ensures { result ≡ zero_fields nodes.now slot }
 {
-    if memory::node_field(nodes, slot, 0, Kind::Node0, 5) != 0 {
-        return false;
-    }
-    if memory::node_field(nodes, slot, 1, Kind::Node1, 1) != 0 {
-        return false;
-    }
-    if memory::node_field(nodes, slot, 2, Kind::Node2, 4) != 0 {
-        return false;
-    }
     let at = 4 * slot as usize;
-    words::word_at(nodes, at + 3) == 0
+    memory::node_field(nodes, slot, 0, Kind::Node0, 5) == 0
+        && memory::node_field(nodes, slot, 1, Kind::Node1, 1) == 0
+        && memory::node_field(nodes, slot, 2, Kind::Node2, 4) == 0
+        && words::word_at(nodes, at + 3) == 0
 }
 
 // A free slot is zero throughout.
+#[tactic(auto, unfolding(model::specs::Damage::free_zero))]
 fn free_zero(nodes: &[u32], cells: &[u32], trail: &[u32], slot: u32) -> bool
     ensures { result ≡ free_zero nodes.now cells.now trail.now slot }
 {
-    if !bindings::zeros(nodes, 4 * slot as usize, 4) {
-        return false;
-    }
-    if !bindings::zeros(cells, 32 * slot as usize, 32) {
-        return false;
-    }
-    bindings::zeros(trail, 32 * slot as usize, 32)
+    let first = 32 * slot as usize;
+    bindings::zeros(nodes, 4 * slot as usize, 4)
+        && bindings::zeros(cells, first, 32)
+        && bindings::zeros(trail, first, 32)
 }
 
 // A position is that of one of so many clauses, from one on.
@@ -44,34 +38,25 @@ fn among_clauses(image: &[u32], start: usize, position: u32, count: u32) -> bool
     ensures { result ≡ among_clauses count image.now start position }
 {
     let mut at = start;
-    let mut left = count;
-    while 0 < left {
+    for _ in 0..count {
         if at == position as usize {
             return true;
         }
         at += words::clause_length(words::word_at(image, at)) as usize;
-        left -= 1;
     }
     false
 }
 
 // The root is used, and its links are 0.
+#[tactic(auto, unfolding(model::specs::Damage::root_sound))]
 fn root_sound(nodes: &[u32]) -> bool
     ensures { result ≡ root_sound nodes.now }
 {
-    if memory::used(nodes, 0) != 1 {
-        return false;
-    }
-    if memory::parent(nodes, 0) != 0 {
-        return false;
-    }
-    if memory::depth(nodes, 0) != 0 {
-        return false;
-    }
-    if memory::clause_position(nodes, 0) != 0 {
-        return false;
-    }
-    memory::base(nodes, 0) == 0
+    memory::used(nodes, 0) == 1
+        && memory::parent(nodes, 0) == 0
+        && memory::depth(nodes, 0) == 0
+        && memory::clause_position(nodes, 0) == 0
+        && memory::base(nodes, 0) == 0
 }
 
 // The predicate word of a node's first goal.
@@ -83,45 +68,32 @@ fn called_word<'a>(image: &'a [u32], query: &'a [u32], nodes: &[u32], node: u32)
 }
 
 // A slot's parent is used, one less deep, and has tried the slot's clause on its first goal.
+#[tactic(auto, unfolding(model::specs::Damage::linked))]
 fn linked<'a>(image: &'a [u32], query: &'a [u32], nodes: &[u32], slot: u32) -> bool
     ensures { result ≡ linked image.now query.now nodes.now slot }
 {
     let parent = memory::parent(nodes, slot);
-    if memory::used(nodes, parent) != 1 {
-        return false;
-    }
-    if memory::depth(nodes, slot) != memory::depth(nodes, parent) + 1 {
-        return false;
-    }
-    if memory::has_goal(nodes, parent) != 1 {
-        return false;
-    }
     let first = words::first_clause(called_word(image, query, nodes, parent)) as usize;
-    among_clauses(
-        image,
-        first,
-        memory::clause_position(nodes, slot),
-        memory::tried(nodes, parent),
-    )
+    let position = memory::clause_position(nodes, slot);
+    memory::used(nodes, parent) == 1
+        && memory::depth(nodes, slot) == memory::depth(nodes, parent) + 1
+        && memory::has_goal(nodes, parent) == 1
+        && among_clauses(image, first, position, memory::tried(nodes, parent))
 }
 
 // A slot without a goal: its goal's fields are 0.
+#[tactic(auto, unfolding(model::specs::Damage::without_goal))]
 fn without_goal(nodes: &[u32], slot: u32) -> bool
     ensures { result ≡ without_goal nodes.now slot }
 {
-    if memory::has_goal(nodes, slot) != 0 {
-        return false;
-    }
-    if memory::frame(nodes, slot) != 0 {
-        return false;
-    }
-    if memory::goal_index(nodes, slot) != 0 {
-        return false;
-    }
-    memory::tried(nodes, slot) == 0
+    memory::has_goal(nodes, slot) == 0
+        && memory::frame(nodes, slot) == 0
+        && memory::goal_index(nodes, slot) == 0
+        && memory::tried(nodes, slot) == 0
 }
 
 // A slot's first goal stands at an index of a slot's clause, and no more clauses are tried than there are.
+#[tactic(auto, unfolding(model::specs::Damage::with_goal))]
 fn with_goal<'a>(
     image: &'a [u32],
     query: &'a [u32],
@@ -132,19 +104,14 @@ fn with_goal<'a>(
 ) -> bool
     ensures { result ≡ with_goal image.now query.now nodes.now slot holder index }
 {
-    if memory::has_goal(nodes, slot) != 1 {
-        return false;
-    }
-    if memory::frame(nodes, slot) != holder {
-        return false;
-    }
-    if memory::goal_index(nodes, slot) != index {
-        return false;
-    }
-    memory::tried(nodes, slot) <= words::clause_count(called_word(image, query, nodes, slot))
+    memory::has_goal(nodes, slot) == 1
+        && memory::frame(nodes, slot) == holder
+        && memory::goal_index(nodes, slot) == index
+        && memory::tried(nodes, slot) <= words::clause_count(called_word(image, query, nodes, slot))
 }
 
 // A slot's goal fields hold a first goal, and the clauses tried go with it.
+#[tactic(auto, unfolding(model::specs::Damage::goal_sound))]
 fn goal_sound<'a>(
     image: &'a [u32],
     query: &'a [u32],
@@ -161,6 +128,7 @@ fn goal_sound<'a>(
 }
 
 // The first goal of a slot by the rules.
+#[tactic(auto, unfolding(model::specs::Damage::rule_goal))]
 fn rule_goal<'a>(image: &'a [u32], query: &'a [u32], nodes: &[u32], slot: u32) -> FirstGoal
     ensures { result ≡ rule_goal image.now query.now nodes.now slot }
 {
@@ -180,14 +148,14 @@ fn rule_goal<'a>(image: &'a [u32], query: &'a [u32], nodes: &[u32], slot: u32) -
 }
 
 // A slot's base is its parent's base plus its parent's variables.
+#[tactic(auto, unfolding(model::specs::Damage::base_sound))]
 fn base_sound(nodes: &[u32], slot: u32) -> bool
     ensures { result ≡ base_sound nodes.now slot }
 {
-    if slot == 0 {
-        return true;
-    }
     let parent = memory::parent(nodes, slot);
-    memory::base(nodes, slot) == memory::base(nodes, parent) + memory::own_variables(nodes, parent)
+    slot == 0
+        || memory::base(nodes, slot)
+            == memory::base(nodes, parent) + memory::own_variables(nodes, parent)
 }
 
 // How many variables a slot's clause has.
@@ -199,20 +167,23 @@ fn clause_variables<'a>(image: &'a [u32], query: &'a [u32], nodes: &[u32], slot:
 }
 
 // A slot's variables, base and first goal follow the rules.
+#[tactic(auto, unfolding(model::specs::Damage::node_sound))]
 fn node_sound<'a>(image: &'a [u32], query: &'a [u32], nodes: &[u32], slot: u32) -> bool
     ensures { result ≡ node_sound image.now query.now nodes.now slot }
 {
-    if memory::own_variables(nodes, slot) != clause_variables(image, query, nodes, slot) {
-        return false;
-    }
-    if !base_sound(nodes, slot) {
-        return false;
-    }
-    let goal = rule_goal(image, query, nodes, slot);
-    goal_sound(image, query, nodes, slot, goal)
+    memory::own_variables(nodes, slot) == clause_variables(image, query, nodes, slot)
+        && base_sound(nodes, slot)
+        && goal_sound(
+            image,
+            query,
+            nodes,
+            slot,
+            rule_goal(image, query, nodes, slot),
+        )
 }
 
 // A slot's zero fields, and its links if it is used; zero throughout if not.
+#[tactic(auto, unfolding(model::specs::Damage::slot_linked))]
 fn slot_linked<'a>(
     image: &'a [u32],
     query: &'a [u32],
@@ -229,13 +200,11 @@ fn slot_linked<'a>(
     if memory::used(nodes, slot) != 1 {
         return free_zero(nodes, cells, trail, slot);
     }
-    if slot == 0 {
-        return true;
-    }
-    linked(image, query, nodes, slot)
+    slot == 0 || linked(image, query, nodes, slot)
 }
 
 // A used slot's clause, cells and trail.
+#[tactic(auto, unfolding(model::specs::Damage::slot_sound))]
 fn slot_sound<'a>(
     image: &'a [u32],
     query: &'a [u32],
@@ -246,77 +215,10 @@ fn slot_sound<'a>(
 ) -> bool
     ensures { result ≡ slot_sound image.now query.now nodes.now cells.now trail.now slot }
 {
-    if memory::used(nodes, slot) != 1 {
-        return true;
-    }
-    if !node_sound(image, query, nodes, slot) {
-        return false;
-    }
-    if !bindings::cells_sound(nodes, cells, slot) {
-        return false;
-    }
-    bindings::trail_sound(nodes, cells, trail, slot)
-}
-
-// All slots' links.
-fn slots_linked<'a>(
-    image: &'a [u32],
-    query: &'a [u32],
-    nodes: &[u32],
-    cells: &[u32],
-    trail: &[u32],
-) -> bool
-    ensures { result ≡ each 64 (slot_linked image.now query.now nodes.now cells.now trail.now) 0 }
-{
-    let mut slot: u32 = 0;
-    let mut left: u32 = 64;
-    while 0 < left {
-        if !slot_linked(image, query, nodes, cells, trail, slot) {
-            return false;
-        }
-        slot += 1;
-        left -= 1;
-    }
-    true
-}
-
-// All slots' clauses, cells and trails.
-fn slots_sound<'a>(
-    image: &'a [u32],
-    query: &'a [u32],
-    nodes: &[u32],
-    cells: &[u32],
-    trail: &[u32],
-) -> bool
-    ensures { result ≡ each 64 (slot_sound image.now query.now nodes.now cells.now trail.now) 0 }
-{
-    let mut slot: u32 = 0;
-    let mut left: u32 = 64;
-    while 0 < left {
-        if !slot_sound(image, query, nodes, cells, trail, slot) {
-            return false;
-        }
-        slot += 1;
-        left -= 1;
-    }
-    true
-}
-
-// The 2,048 words from a place of the arrays on are those of an array.
-fn same_words(arrays: &[u32], start: usize, array: &[u32]) -> bool
-    requires { start < 1125899906842624 }
-    ensures { result ≡ same_words 2048 (take 2048 (drop start arrays.now)) array.now 0 }
-{
-    let mut k: usize = 0;
-    let mut left: usize = 2048;
-    while 0 < left {
-        if words::word_at(arrays, start + k) != words::word_at(array, k) {
-            return false;
-        }
-        k += 1;
-        left -= 1;
-    }
-    true
+    memory::used(nodes, slot) != 1
+        || (node_sound(image, query, nodes, slot)
+            && bindings::cells_sound(nodes, cells, slot)
+            && bindings::trail_sound(nodes, cells, trail, slot))
 }
 
 // A worker's array holds the trail entries from a slot up to the root, and nothing else.
@@ -325,38 +227,20 @@ fn array_sound(nodes: &[u32], trail: &[u32], arrays: &[u32], worker: u32, slot: 
 {
     let mut array = [0u32; 2048];
     let depth = memory::depth(nodes, slot);
-    memory::climb_install(&mut array, nodes, trail, 0, slot, depth, 0);
-    same_words(arrays, 2048 * worker as usize, &array)
+    memory::climb::<PutIn>(&mut array, nodes, trail, 0, slot, depth, 0);
+    (0..2048u32).all(|k| {
+        let at = 2048 * worker as usize + k as usize;
+        words::word_at(arrays, at) == words::word_at(&array, k as usize)
+    })
 }
 
 // A worker's slot is used, and its array is that of its slot.
+#[tactic(auto, unfolding(model::specs::Damage::worker_sound))]
 fn worker_sound(nodes: &[u32], trail: &[u32], arrays: &[u32], workers: &[u32], worker: u32) -> bool
     ensures { result ≡ worker_sound nodes.now trail.now arrays.now workers.now worker }
 {
     let slot = words::word_at(workers, worker as usize);
-    if 64 <= slot {
-        return false;
-    }
-    if memory::used(nodes, slot) != 1 {
-        return false;
-    }
-    array_sound(nodes, trail, arrays, worker, slot)
-}
-
-// All workers.
-fn workers_sound(nodes: &[u32], trail: &[u32], arrays: &[u32], workers: &[u32]) -> bool
-    ensures { result ≡ each 4 (worker_sound nodes.now trail.now arrays.now workers.now) 0 }
-{
-    let mut worker: u32 = 0;
-    let mut left: u32 = 4;
-    while 0 < left {
-        if !worker_sound(nodes, trail, arrays, workers, worker) {
-            return false;
-        }
-        worker += 1;
-        left -= 1;
-    }
-    true
+    slot < 64 && memory::used(nodes, slot) == 1 && array_sound(nodes, trail, arrays, worker, slot)
 }
 
 // Is the memory sound for an image and a query: 21 is given exactly when it is not.
@@ -371,14 +255,8 @@ pub fn sound<'a>(
 ) -> bool
     ensures { result ≡ sound image.now query.now (memory nodes.now cells.now trail.now arrays.now workers.now) }
 {
-    if !root_sound(nodes) {
-        return false;
-    }
-    if !slots_linked(image, query, nodes, cells, trail) {
-        return false;
-    }
-    if !slots_sound(image, query, nodes, cells, trail) {
-        return false;
-    }
-    workers_sound(nodes, trail, arrays, workers)
+    root_sound(nodes)
+        && (0..64).all(|slot| slot_linked(image, query, nodes, cells, trail, slot))
+        && (0..64).all(|slot| slot_sound(image, query, nodes, cells, trail, slot))
+        && (0..4).all(|worker| worker_sound(nodes, trail, arrays, workers, worker))
 }

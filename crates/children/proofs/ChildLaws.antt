@@ -1,16 +1,8 @@
 -- Laws of the counts of children: they answer whether a node has a child, and a change of one slot is followed by two words of the table.
 -- They serve document 01, "Has N a child" of rules 1 to 5 of the steps. Assumes nothing.
-use mathlib.Core.Path.{◌≡◌, refl, sym, ap, ap₂, ◌∙◌, subst}
-use mathlib.Core.Logic.{⊎_elim}
-use mathlib.Core.Bool.{Bool, true, false, cond, not, ◌&&◌}
-use mathlib.Core.List.{List, [], ◌∷◌}
-use Prim.Native.Nat.{ℕ, zero, suc, ◌+◌, ◌-◌, ◌*◌, ◌≤◌, ◌<◌}
-use native.Mathlib.Omega.{arith}
-use native.Mathlib.Nat.{eq-or-lt_of_le, add-zero, pos_of_ne-zero}
-use lib.Dec.{eqb, ltb, leb}
-use lib.ListN.{length, get_or, set, length-set}
-use lib.Seq.{get_or-set_same, get_or-set_other}
-use borrow.Author.Tests.{eq-eqb, ne_eqb, eqb-true, eqb-false, ltb-false, leb-true, leb-false, lt-ltb, le-ltb, le-leb, lt-leb}
+use Rattle.std.proofs.Common.{◌≡◌, refl, sym, ap, ap₂, ◌∙◌, subst, ⊎_elim, Bool, true, false, cond, not, ◌&&◌, List, [], ◌∷◌, ℕ, zero, suc, ◌+◌, ◌-◌, ◌*◌, ◌≤◌, ◌<◌, arith, eq-or-lt_of_le, add-zero, pos_of_ne-zero, eqb, ltb, leb, length, get_or, set, length-set, get_or-set_same, get_or-set_other, ne_eqb, eqb-true, ltb-false, leb-true, leb-false}
+use borrow.Author.Tests.{eqb-false}
+use Rattle.words.proofs.Ranges.{left-after, none-left}
 use Rattle.model.specs.Steps.{child_from}
 use Rattle.children.specs.Children.{used_of, parent_of, is_child, children_from, Counted, Agree, lost, gained, followed}
 
@@ -165,73 +157,30 @@ follow-counted old new children slot agree counted = go (eqb slot 0) refl (leb 6
         let moved = children_from-moved old new node slot 63 1 agree positive low in
         gained-at (lost children before) after node within (omega arith) ∙ omega arith
 
--- the code's ways through `lose`: the slot was free, the count is 0 already, or it becomes one less
-module _ (children : List ℕ) (word held : ℕ) (read : held ≡ used_of word) where
-  pub lost-free : (held ≡ 1 → ⊥) → children ≡ lost children word
-  unfolding lost
-  lost-free free = rw (ne_eqb (used_of word) 1 (λ (e : used_of word ≡ 1). free (read ∙ e))) refl
+-- through `tally`: what is counted and what is left to count are all children
+abbrev pub Tallied : List ℕ → List ℕ → ℕ → Type 0
+Tallied nodes children slot = (node : ℕ) → node < length children → get_or children node 0 + children_from (64 - slot) nodes node slot ≡ children_from 63 nodes node 1
 
-  pub lost-one : held ≡ 1 → (up count : ℕ) → up ≡ parent_of word → count ≡ get_or children up 0 → set children up (count - 1) ≡ lost children word
-  unfolding lost
-  lost-one taken up count above counted = rw (counted, above, eq-eqb (used_of word) 1 (sym read ∙ taken)) refl
-
-  pub lost-none : held ≡ 1 → (up count : ℕ) → up ≡ parent_of word → count ≡ get_or children up 0 → count ≡ 0 → children ≡ lost children word
-  lost-none taken up count above counted none =
-      let less : count - 1 ≡ get_or children up 0 = omega arith in
-      sym (set_own children up) ∙ ap (set children up) (sym less) ∙ lost-one taken up count above counted
-
-  -- through `gain`: the slot is free, the table has no room for more, or the count becomes one more
-  pub gained-free : (held ≡ 1 → ⊥) → children ≡ gained children word
-  unfolding gained
-  gained-free free = rw (ne_eqb (used_of word) 1 (λ (e : used_of word ≡ 1). free (read ∙ e))) refl
-
-  pub gained-full : held ≡ 1 → (up count : ℕ) → up ≡ parent_of word → count ≡ get_or children up 0 → 64 ≤ count → children ≡ gained children word
-  unfolding gained
-  gained-full taken up count above counted full =
-      let most : 64 ≤ get_or children (parent_of word) 0 = subst (λ (k : ℕ). 64 ≤ get_or children k 0) above (subst (λ (n : ℕ). 64 ≤ n) counted full) in
-      rw (eq-eqb (used_of word) 1 (sym read ∙ taken), le-ltb (get_or children (parent_of word) 0) 64 most) refl
-
-  pub gained-one : held ≡ 1 → (up count : ℕ) → up ≡ parent_of word → count ≡ get_or children up 0 → count < 64 → set children up (count + 1) ≡ gained children word
-  unfolding gained
-  gained-one taken up count above counted room =
-      let less : get_or children (parent_of word) 0 < 64 = subst (λ (k : ℕ). get_or children k 0 < 64) above (subst (λ (n : ℕ). n < 64) counted room) in
-      rw (counted, above, eq-eqb (used_of word) 1 (sym read ∙ taken), lt-ltb (get_or children (parent_of word) 0) 64 less) refl
-
--- through `follow`: the slot is the root, there is no such slot, or its child is taken off and put on
-module _ (children : List ℕ) (slot before after : ℕ) where
-  pub followed-root : slot ≡ 0 → children ≡ followed children slot before after
-  unfolding followed
-  followed-root root = rw (eq-eqb slot 0 root) refl
-
-  pub followed-past : (slot ≡ 0 → ⊥) → 64 ≤ slot → children ≡ followed children slot before after
-  unfolding followed
-  followed-past other past = rw (ne_eqb slot 0 other, le-leb 64 slot past) refl
-
-  pub followed-slot : (slot ≡ 0 → ⊥) → slot < 64 → gained (lost children before) after ≡ followed children slot before after
-  unfolding followed
-  followed-slot other within = rw (ne_eqb slot 0 other, lt-leb 64 slot within) refl
-
--- through `tally`: no slot is counted yet, one slot more is, or all are
-pub tally-start : (nodes children : List ℕ) → ((node : ℕ) → node < length children → get_or children node 0 ≡ 0)
-    → (node : ℕ) → node < length children → get_or children node 0 ≡ children_from 0 nodes node 64
+children_from-step : (left : ℕ) (nodes : List ℕ) (node slot : ℕ) → children_from (suc left) nodes node slot ≡ is_child (get_or nodes (4 * slot) 0) node + children_from left nodes node (slot + 1)
 unfolding children_from
-tally-start nodes children none = none
+children_from-step left nodes node slot = refl
 
-pub tally-turn : (nodes children next : List ℕ) (slot : ℕ) → 1 < slot → slot ≤ 64
-    → ((node : ℕ) → node < length children → get_or children node 0 ≡ children_from (64 - slot) nodes node slot)
-    → next ≡ gained children (get_or nodes (4 * (slot - 1)) 0)
-    → (node : ℕ) → node < length next → get_or next node 0 ≡ children_from (64 - (slot - 1)) nodes node (slot - 1)
+children_from-none : (nodes : List ℕ) (node slot : ℕ) → children_from 0 nodes node slot ≡ 0
 unfolding children_from
-tally-turn nodes children next slot low high counted change node inside =
-    let word = get_or nodes (4 * (slot - 1)) 0 in
+children_from-none nodes node slot = refl
+
+pub tally-turn : (nodes children next : List ℕ) (slot : ℕ) → slot < 64 → Tallied nodes children slot → next ≡ gained children (get_or nodes (4 * slot) 0) → Tallied nodes next (slot + 1)
+tally-turn nodes children next slot high counted change node inside =
+    let word = get_or nodes (4 * slot) 0 in
     let inner : node < length children = subst (λ (n : ℕ). node < n) (ap length change ∙ gained-length children word) inside in
+    let here = ap (λ (left : ℕ). children_from left nodes node slot) (left-after slot 64 high) ∙ children_from-step (64 - (slot + 1)) nodes node slot in
     let count = counted node inner in
-    let left : 64 - (slot - 1) ≡ suc (64 - slot) = omega arith in
-    let up : slot - 1 + 1 ≡ slot = omega arith in
-    let bound = children_from-bound (64 - slot) nodes node slot in
-    let more = gained-at children word node inner (omega arith) in
-    ap (λ (words : List ℕ). get_or words node 0) change ∙ more ∙ rw (left, up, count) (omega arith)
+    let bound = children_from-bound 63 nodes node 1 in
+    let more = ap (λ (words : List ℕ). get_or words node 0) change ∙ gained-at children word node inner (omega arith) in
+    omega (arith, here, count, more)
 
-pub tally-end : (nodes children : List ℕ) (slot : ℕ) → slot ≡ 1
-    → ((node : ℕ) → node < length children → get_or children node 0 ≡ children_from (64 - slot) nodes node slot) → Counted nodes children
-tally-end nodes children slot first counted = λ node inside. counted node inside ∙ ap (λ (k : ℕ). children_from (64 - k) nodes node k) first
+pub tally-end : (nodes children : List ℕ) (slot : ℕ) → 64 ≤ slot → Tallied nodes children slot → Counted nodes children
+tally-end nodes children slot last counted node inside =
+    let none = ap (λ (left : ℕ). children_from left nodes node slot) (none-left slot 64 last) ∙ children_from-none nodes node slot in
+    let count = counted node inside in
+    omega (arith, none, count)

@@ -2,9 +2,9 @@
 // With the table that question is one word, and is not sought among all slots at every dead node. Assumes nothing.
 #![tactic(auto)]
 
-ghost use Rattle.std.specs.Prelude.{◌≡◌, ◌*◌, get_or};
+ghost use Rattle.std.specs.Prelude.{◌≡◌, ◌*◌, get_or, cond, eqb, Some, None};
 ghost use Rattle.model.specs.Steps.{has_child};
-ghost use Rattle.children.specs.Children.{Counted, lost, gained, followed};
+ghost use Rattle.children.specs.Children.{used_of, parent_of, Counted, lost, gained, followed};
 
 use model::Kind;
 
@@ -24,13 +24,11 @@ pub fn has_child(nodes: &[u32], children: &[u32], node: u32) -> bool
 
 // The table follows a slot whose word 0 has changed: what it was before is given, what it is now stands in the memory.
 // The root is nobody's child, and there is no slot past the last.
+#[tactic(auto, unfolding(crate::specs::Children::followed))]
 pub fn follow(nodes: &[u32], children: &mut [u32], slot: u32, before: u32)
     ensures { children.new ≡ followed children.old slot before (get_or nodes.now (4 * slot) 0) }
 {
-    if slot == ROOT {
-        return;
-    }
-    if 64 <= slot {
+    if slot == ROOT || 64 <= slot {
         return;
     }
     lose(children, before);
@@ -38,45 +36,46 @@ pub fn follow(nodes: &[u32], children: &mut [u32], slot: u32, before: u32)
     gain(children, after);
 }
 
-// The table made anew, whatever it held: each slot's child is counted, from the last slot down to the first after the root.
+// The table made anew, whatever it held: each slot's child is counted, from the first slot after the root on.
 pub fn tally(nodes: &[u32], children: &mut [u32])
     ensures { Counted nodes.now children.new }
 {
     memory::wipe(children);
-    let mut slot: u32 = 64;
-    while 1 < slot {
-        slot -= 1;
-        let word = words::word_at(nodes, 4 * slot as usize);
-        gain(children, word);
+    for slot in 1..64 {
+        gain(children, words::word_at(nodes, 4 * slot));
     }
+}
+
+// The slot whose child a slot is by its word 0, none if it is free.
+fn parent_named(word: u32) -> Option<usize>
+    ensures { result ≡ cond (eqb (used_of word) 1) (Some (parent_of word)) None }
+{
+    if words::read(word, Kind::Node0, 0) != 1 {
+        return None;
+    }
+    Some(words::read(word, Kind::Node0, 1) as usize)
 }
 
 // One child less at the parent that a used slot's word 0 names.
+#[tactic(auto, unfolding(crate::specs::Children::lost))]
 fn lose(children: &mut [u32], word: u32)
     ensures { children.new ≡ lost children.old word }
 {
-    if words::read(word, Kind::Node0, 0) != 1 {
-        return;
+    if let Some(up) = parent_named(word) {
+        let count = words::word_at(children, up);
+        words::put(children, up, count.saturating_sub(1));
     }
-    let up = words::read(word, Kind::Node0, 1) as usize;
-    let count = words::word_at(children, up);
-    if count == 0 {
-        return;
-    }
-    words::put(children, up, count - 1);
 }
 
 // One child more. A right count is below 64, as there are no more slots; the test is for tables that are not.
+#[tactic(auto, unfolding(crate::specs::Children::gained))]
 fn gain(children: &mut [u32], word: u32)
     ensures { children.new ≡ gained children.old word }
 {
-    if words::read(word, Kind::Node0, 0) != 1 {
-        return;
+    if let Some(up) = parent_named(word) {
+        let count = words::word_at(children, up);
+        if count < 64 {
+            words::put(children, up, count + 1);
+        }
     }
-    let up = words::read(word, Kind::Node0, 1) as usize;
-    let count = words::word_at(children, up);
-    if 64 <= count {
-        return;
-    }
-    words::put(children, up, count + 1);
 }

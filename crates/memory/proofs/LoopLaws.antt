@@ -1,75 +1,81 @@
 -- One turn of each loop over memory words: stores in a row, entries of a trail, a search from a number on, a walk up. Assumes nothing.
-use mathlib.Core.Path.{◌≡◌, refl, sym, ap, ◌∙◌}
-use mathlib.Core.Bool.{Bool, true, false, not, ◌&&◌}
-use mathlib.Core.List.{List}
-use Prim.Native.Nat.{ℕ, zero, suc, ◌+◌, ◌-◌, ◌*◌, ◌≤◌, ◌<◌}
-use native.Mathlib.Nat.{add-zero}
-use native.Mathlib.Omega.{arith}
-use lib.Dec.{eqb, ltb}
-use lib.ListN.{length, get_or, set, get_or-eq_default}
-use lib.Seq.{get_or-set_same, get_or-set_other}
-use borrow.Author.Tests.{eq-eqb, ne_eqb, eqb-true, eqb-false, ltb-true, ltb-false}
+use Rattle.std.proofs.Common.{◌≡◌, refl, sym, ap, ◌∙◌, Bool, true, false, not, ◌&&◌, List, [], ◌∷◌, ◌++◌, ℕ, zero, suc, ◌+◌, ◌-◌, ◌*◌, ◌≤◌, ◌<◌, eqb, min, length, get_or, set, take, drop, replicate, length-set, add-zero, append_assoc, arith}
+use Rattle.std.proofs.lemmas.List.{take-append-drop, take_more_set, drop-set-lt}
+use Rattle.std.proofs.Math.Seq.{set_out, drop-drop}
+use borrow.Author.Tests.{eq-eqb, ne_eqb}
+use borrow.Rule.Slice.PartMut.{put_mid, post_of}
+use Rattle.words.proofs.Ranges.{left-after, none-left}
 use Rattle.model.specs.Memory.{cleared, vno_word, used, parent, entries}
 use Rattle.model.specs.Steps.{child_from, another_from, free_from, undone, laid}
 use Rattle.model.specs.Damage.{each}
 use Rattle.model.specs.Moves.{installed, climbed, leg}
-use Rattle.memory.specs.Wiped.{Wiped}
 
-pub cleared-turn : (left at : ℕ) (words : List ℕ) → 0 < left → cleared (left - 1) (at + 1) (set words at 0) ≡ cleared left at words
+-- stores of 0 past the end do nothing
+cleared-past : (count at : ℕ) (words : List ℕ) → length words ≤ at → cleared count at words ≡ words
 unfolding cleared
-cleared-turn zero at words h = absurd (omega arith)
-cleared-turn (suc left) at words h = let e : suc left - 1 ≡ left = omega arith in rw e refl
+cleared-past zero at words h = refl
+cleared-past (suc count) at words h = ap (cleared count (at + 1)) (set_out words at 0 h) ∙ cleared-past count (at + 1) words (omega arith)
 
-pub cleared-end : (left at : ℕ) (words : List ℕ) → left ≤ 0 → words ≡ cleared left at words
+-- stores of 0 in a row fill the part of the list that is there
+pub cleared-part : (count at n : ℕ) (words : List ℕ) → at + n ≤ length words → n ≤ count → (n < count → length words ≤ at + n)
+    → put_mid at n words (replicate n 0) ≡ cleared count at words
 unfolding cleared
-cleared-end zero at words h = refl
-cleared-end (suc left) at words h = absurd (omega arith)
+cleared-part zero at zero words h l e = take-append-drop at words
+cleared-part zero at (suc n) words h l e = absurd (omega arith)
+cleared-part (suc count) at zero words h l e = take-append-drop at words ∙ sym (cleared-past (suc count) at words (omega (arith, e (omega arith))))
+cleared-part (suc count) at (suc n) words h l e =
+    let long = length-set words at 0 in
+    let within : at < length words = omega arith in
+    ap (λ (rest : List ℕ). take at words ++ (0 ∷ (replicate n 0 ++ rest)))
+    (drop-drop (suc n) at words ∙ ap (λ (m : ℕ). drop m words) (let s : at + suc n ≡ at + 1 + n = omega arith in s)
+    ∙ sym (drop-drop n (at + 1) (set words at 0) ∙ drop-set-lt (at + 1 + n) words at 0 (omega arith)))
+    ∙ sym (append_assoc (take at words) (0 ∷ []) (replicate n 0 ++ post_of (at + 1) n (set words at 0)))
+    ∙ ap (λ (front : List ℕ). front ++ (replicate n 0 ++ post_of (at + 1) n (set words at 0))) (sym (take_more_set words at 0 within))
+    ∙ cleared-part count (at + 1) n (set words at 0) (omega (arith, long)) (omega arith) (λ m. omega (arith, long, e (omega arith)))
 
--- words set to 0 from the first on
-pub wiped-turn : (words : List ℕ) (i : ℕ) → i < length words → ((at : ℕ) → at < i → get_or words at 0 ≡ 0) → (at : ℕ) → at < i + 1 → get_or (set words i 0) at 0 ≡ 0
-wiped-turn words i fits none at h = go (eqb at i) refl
-  where
-    go : (b : Bool) → eqb at i ≡ b → get_or (set words i 0) at 0 ≡ 0
-    go true q = let e = eqb-true at i q in ap (λ (n : ℕ). get_or (set words i 0) n 0) e ∙ get_or-set_same words i 0 0 fits
-    go false q = let ne = eqb-false at i q in get_or-set_other words i at 0 0 ne ∙ none at (omega arith)
+pub cleared-none : (count at end : ℕ) (words : List ℕ) → end ≡ min (length words) (at + count) → end ≤ at → words ≡ cleared count at words
+unfolding cleared
+cleared-none zero at end words e h = refl
+cleared-none (suc count) at end words e h = sym (cleared-past (suc count) at words (omega arith))
 
-pub wiped-end : (words : List ℕ) (i : ℕ) → length words ≤ i → ((at : ℕ) → at < i → get_or words at 0 ≡ 0) → Wiped words
-wiped-end words i all none at = go (ltb at i) refl
-  where
-    go : (b : Bool) → ltb at i ≡ b → get_or words at 0 ≡ 0
-    go true q = none at (ltb-true at i q)
-    go false q = get_or-eq_default words 0 (omega (arith, ltb-false at i q))
+pub cleared-filled : (count at end : ℕ) (words part : List ℕ) → end ≡ min (length words) (at + count) → at < end → part ≡ replicate (end - at) 0
+    → put_mid at (end - at) words part ≡ cleared count at words
+cleared-filled count at end words part e h p = rw p (cleared-part count at (end - at) words (omega arith) (omega arith) (λ m. omega arith))
 
-pub laid-turn : (left at number : ℕ) (cells : List ℕ) → 0 < left → laid (left - 1) (at + 1) (number + 1) (set cells at (vno_word number)) ≡ laid left at number cells
+-- one turn of a loop that stores, at number k of so many, and its end
+pub laid-turn : (count k start first : ℕ) (cells next : List ℕ) → k < count → next ≡ set cells (start + k) (vno_word (first + k))
+    → laid (count - (k + 1)) (start + (k + 1)) (first + (k + 1)) next ≡ laid (count - k) (start + k) (first + k) cells
 unfolding laid
-laid-turn zero at number cells h = absurd (omega arith)
-laid-turn (suc left) at number cells h = let e : suc left - 1 ≡ left = omega arith in rw e refl
+laid-turn count k start first cells next h e =
+    let at : start + (k + 1) ≡ start + k + 1 = omega arith in
+    let number : first + (k + 1) ≡ first + k + 1 = omega arith in
+    rw (left-after k count h, at, number, e) refl
 
-pub laid_end : (left at number : ℕ) (cells : List ℕ) → left ≤ 0 → cells ≡ laid left at number cells
+pub laid-end : (count k at number : ℕ) (cells : List ℕ) → count ≤ k → cells ≡ laid (count - k) at number cells
 unfolding laid
-laid_end zero at number cells h = refl
-laid_end (suc left) at number cells h = absurd (omega arith)
+laid-end count k at number cells h = rw (none-left k count h) refl
 
-pub undone-turn : (left : ℕ) (trail : List ℕ) (at : ℕ) (array : List ℕ) → 0 < left → undone (left - 1) trail (at + 2) (set array (get_or trail at 0) 0) ≡ undone left trail at array
+pub undone-turn : (count k : ℕ) (trail : List ℕ) (start : ℕ) (array next : List ℕ) → k < count → next ≡ set array (get_or trail (start + 2 * k) 0) 0
+    → undone (count - (k + 1)) trail (start + 2 * (k + 1)) next ≡ undone (count - k) trail (start + 2 * k) array
 unfolding undone
-undone-turn zero trail at array h = absurd (omega arith)
-undone-turn (suc left) trail at array h = let e : suc left - 1 ≡ left = omega arith in rw e refl
+undone-turn count k trail start array next h e =
+    let at : start + 2 * (k + 1) ≡ start + 2 * k + 2 = omega arith in
+    rw (left-after k count h, at, e) refl
 
-pub undone-end : (left : ℕ) (trail : List ℕ) (at : ℕ) (array : List ℕ) → left ≤ 0 → array ≡ undone left trail at array
+pub undone-end : (count k : ℕ) (trail : List ℕ) (at : ℕ) (array : List ℕ) → count ≤ k → array ≡ undone (count - k) trail at array
 unfolding undone
-undone-end zero trail at array h = refl
-undone-end (suc left) trail at array h = absurd (omega arith)
+undone-end count k trail at array h = rw (none-left k count h) refl
 
-pub installed-turn : (left : ℕ) (trail : List ℕ) (at : ℕ) (array : List ℕ) → 0 < left
-    → installed (left - 1) trail (at + 2) (set array (get_or trail at 0) (get_or trail (at + 1) 0)) ≡ installed left trail at array
+pub installed-turn : (count k : ℕ) (trail : List ℕ) (start : ℕ) (array next : List ℕ) → k < count → next ≡ set array (get_or trail (start + 2 * k) 0) (get_or trail (start + 2 * k + 1) 0)
+    → installed (count - (k + 1)) trail (start + 2 * (k + 1)) next ≡ installed (count - k) trail (start + 2 * k) array
 unfolding installed
-installed-turn zero trail at array h = absurd (omega arith)
-installed-turn (suc left) trail at array h = let e : suc left - 1 ≡ left = omega arith in rw e refl
+installed-turn count k trail start array next h e =
+    let at : start + 2 * (k + 1) ≡ start + 2 * k + 2 = omega arith in
+    rw (left-after k count h, at, e) refl
 
-pub installed-end : (left : ℕ) (trail : List ℕ) (at : ℕ) (array : List ℕ) → left ≤ 0 → array ≡ installed left trail at array
+pub installed-end : (count k : ℕ) (trail : List ℕ) (at : ℕ) (array : List ℕ) → count ≤ k → array ≡ installed (count - k) trail at array
 unfolding installed
-installed-end zero trail at array h = refl
-installed-end (suc left) trail at array h = absurd (omega arith)
+installed-end count k trail at array h = rw (none-left k count h) refl
 
 -- a test of so many numbers holds of each
 pub each_holds : (test : ℕ → Bool) (count at : ℕ) → each count test at ≡ true → (k : ℕ) → k < count → test (at + k) ≡ true
@@ -83,56 +89,38 @@ each_holds test (suc count) at e k h = go (test at) refl k h e (each_holds test 
     go true q (suc k) h e rest = ap test (let s : at + suc k ≡ at + 1 + k = omega arith in s) ∙ rest e k (omega arith)
     go false q k h e rest = let z : ◌≡◌ {A = ℕ} 0 1 = cc in absurd (omega arith)
 
--- a search among so many from a number on
-module _ (from : ℕ → ℕ → Bool) (test : ℕ → Bool) (none : (k : ℕ) → from 0 k ≡ false)
-    (more : (left k : ℕ) → from (suc left) k ≡ elim (test k) [ true ↦ true | false ↦ from left (k + 1) ]) where
-  search-end : (left k : ℕ) → left ≤ 0 → false ≡ from left k
-  search-end zero k h = sym (none k)
-  search-end (suc left) k h = absurd (omega arith)
-
-  search-hit : (left k : ℕ) → 0 < left → test k ≡ true → true ≡ from left k
-  search-hit zero k h e = absurd (omega arith)
-  search-hit (suc left) k h e = sym (more left k ∙ ap (λ (t : Bool). elim t [ true ↦ true | false ↦ from left (k + 1) ]) e)
-
-  search-miss : (left k : ℕ) → 0 < left → test k ≡ false → from (left - 1) (k + 1) ≡ from left k
-  search-miss zero k h e = absurd (omega arith)
-  search-miss (suc left) k h e =
-      let s : suc left - 1 ≡ left = omega arith in
-      rw s (sym (more left k ∙ ap (λ (t : Bool). elim t [ true ↦ true | false ↦ from left (k + 1) ]) e))
-
+-- a node's child, and another worker at a node: none left to look at, one found, one passed
 module _ (nodes : List ℕ) (node : ℕ) where
-  abbrev child_test : ℕ → Bool
+  abbrev pub child_test : ℕ → Bool
   child_test slot = eqb (used nodes slot) 1 && eqb (parent nodes slot) node
 
-  pub child_from-end : (left slot : ℕ) → left ≤ 0 → false ≡ child_from left nodes node slot
+  pub child_from-none : (slot : ℕ) → child_from 0 nodes node slot ≡ false
   unfolding child_from
-  child_from-end = search-end (λ n. child_from n nodes node) child_test (λ k. refl) (λ n k. refl)
+  child_from-none slot = refl
 
-  pub child_from-hit : (left slot : ℕ) → 0 < left → (eqb (used nodes slot) 1 && eqb (parent nodes slot) node) ≡ true → true ≡ child_from left nodes node slot
+  pub child_from-hit : (left slot : ℕ) → child_test slot ≡ true → child_from (suc left) nodes node slot ≡ true
   unfolding child_from
-  child_from-hit = search-hit (λ n. child_from n nodes node) child_test (λ k. refl) (λ n k. refl)
+  child_from-hit left slot e = rw (e, child_from) refl
 
-  pub child_from-miss : (left slot : ℕ) → 0 < left → (eqb (used nodes slot) 1 && eqb (parent nodes slot) node) ≡ false
-      → child_from (left - 1) nodes node (slot + 1) ≡ child_from left nodes node slot
+  pub child_from-miss : (left slot : ℕ) → child_test slot ≡ false → child_from (suc left) nodes node slot ≡ child_from left nodes node (slot + 1)
   unfolding child_from
-  child_from-miss = search-miss (λ n. child_from n nodes node) child_test (λ k. refl) (λ n k. refl)
+  child_from-miss left slot e = rw (e, child_from) refl
 
 module _ (workers : List ℕ) (worker node : ℕ) where
-  abbrev worker_test : ℕ → Bool
+  abbrev pub worker_test : ℕ → Bool
   worker_test other = not (eqb other worker) && eqb (get_or workers other 0) node
 
-  pub another_from-end : (left other : ℕ) → left ≤ 0 → false ≡ another_from left workers worker node other
+  pub another_from-none : (other : ℕ) → another_from 0 workers worker node other ≡ false
   unfolding another_from
-  another_from-end = search-end (λ n. another_from n workers worker node) worker_test (λ k. refl) (λ n k. refl)
+  another_from-none other = refl
 
-  pub another_from-hit : (left other : ℕ) → 0 < left → (not (eqb other worker) && eqb (get_or workers other 0) node) ≡ true → true ≡ another_from left workers worker node other
+  pub another_from-hit : (left other : ℕ) → worker_test other ≡ true → another_from (suc left) workers worker node other ≡ true
   unfolding another_from
-  another_from-hit = search-hit (λ n. another_from n workers worker node) worker_test (λ k. refl) (λ n k. refl)
+  another_from-hit left other e = rw (e, another_from) refl
 
-  pub another_from-miss : (left other : ℕ) → 0 < left → (not (eqb other worker) && eqb (get_or workers other 0) node) ≡ false
-      → another_from (left - 1) workers worker node (other + 1) ≡ another_from left workers worker node other
+  pub another_from-miss : (left other : ℕ) → worker_test other ≡ false → another_from (suc left) workers worker node other ≡ another_from left workers worker node (other + 1)
   unfolding another_from
-  another_from-miss = search-miss (λ n. another_from n workers worker node) worker_test (λ k. refl) (λ n k. refl)
+  another_from-miss left other e = rw (e, another_from) refl
 
 pub free_from-end : (nodes : List ℕ) (left slot : ℕ) → left ≤ 0 → slot ≡ free_from left nodes slot
 unfolding free_from
@@ -149,23 +137,19 @@ unfolding free_from
 free_from-miss nodes zero slot h e = absurd (omega arith)
 free_from-miss nodes (suc left) slot h e = let s : suc left - 1 ≡ left = omega arith in rw (s, eq-eqb (used nodes slot) 1 e, free_from) refl
 
--- a walk up, whatever it does to the array: it has climbed as often as it may, it is there, or it goes on
+-- a walk up, whatever it does to the array, k slots of so many climbed: it has climbed as often as it may, it is there, or it goes on
 module _ (change : ℕ → List ℕ → ℕ → List ℕ → List ℕ) (nodes trail : List ℕ) (ancestor : ℕ) where
-  pub climbed-end : (left slot passed : ℕ) (array : List ℕ) → left ≤ 0 → leg array passed ≡ climbed change left nodes trail ancestor slot array passed
+  pub climbed-end : (most k slot passed : ℕ) (array : List ℕ) → most ≤ k → leg array passed ≡ climbed change (most - k) nodes trail ancestor slot array passed
   unfolding climbed
-  climbed-end zero slot passed array h = refl
-  climbed-end (suc left) slot passed array h = absurd (omega arith)
+  climbed-end most k slot passed array h = rw (none-left k most h) refl
 
-  pub climbed-there : (left slot passed : ℕ) (array : List ℕ) → 0 < left → slot ≡ ancestor → leg array passed ≡ climbed change left nodes trail ancestor slot array passed
+  pub climbed-there : (most k slot passed : ℕ) (array : List ℕ) → k < most → slot ≡ ancestor → leg array passed ≡ climbed change (most - k) nodes trail ancestor slot array passed
   unfolding climbed
-  climbed-there zero slot passed array h e = absurd (omega arith)
-  climbed-there (suc left) slot passed array h e = rw (eq-eqb slot ancestor e, climbed) refl
+  climbed-there most k slot passed array h e = rw (left-after k most h, climbed, eq-eqb slot ancestor e) refl
 
-  pub climbed-turn : (left slot passed here up : ℕ) (array next : List ℕ) → 0 < left → (slot ≡ ancestor → ⊥)
+  pub climbed-turn : (most k slot passed here up : ℕ) (array next : List ℕ) → k < most → (slot ≡ ancestor → ⊥)
       → here ≡ entries nodes slot → up ≡ parent nodes slot → next ≡ change here trail (32 * slot) array
-      → climbed change (left - 1) nodes trail ancestor up next (passed + here) ≡ climbed change left nodes trail ancestor slot array passed
+      → climbed change (most - (k + 1)) nodes trail ancestor up next (passed + here) ≡ climbed change (most - k) nodes trail ancestor slot array passed
   unfolding climbed
-  climbed-turn zero slot passed here up array next h n eh eu en = absurd (omega arith)
-  climbed-turn (suc left) slot passed here up array next h n eh eu en =
-      let s : suc left - 1 ≡ left = omega arith in
-      rw (s, en, eh, eu, ne_eqb slot ancestor n, climbed, add-zero (32 * slot)) refl
+  climbed-turn most k slot passed here up array next h n eh eu en =
+      rw (left-after k most h, en, eh, eu, ne_eqb slot ancestor n, climbed, add-zero (32 * slot)) refl

@@ -1,7 +1,7 @@
 // The shared memory in words: document 01, "Shared memory". Reads past the end give 0, stores past the end do nothing.
 #![tactic(auto)]
 
-ghost use Rattle.std.specs.Prelude.{◌≡◌, [], ◌∷◌, ◌+◌, ◌*◌, ◌≤◌, ◌<◌, length, get_or, ◌&&◌, not, eqb};
+ghost use Rattle.std.specs.Prelude.{◌≡◌, List, [], ◌∷◌, ℕ, ◌+◌, ◌*◌, ◌≤◌, ◌<◌, length, get_or, ◌&&◌, not, eqb};
 ghost use Rattle.model.specs.declared.Kind.TheVariants.{Node0, Node1, Node2, Value};
 ghost use Rattle.model.specs.Fields.{widths_of, field};
 ghost use Rattle.model.specs.Memory.{node_word, used, parent, depth, entries, own_variables, base, clause_position, has_goal, frame, goal_index, tried, word_of, cleared};
@@ -87,6 +87,7 @@ pub fn tried(nodes: &[u32], slot: u32) -> u32
 }
 
 // A value: tag and value.
+#[tactic(auto, unfolding(model::specs::Memory::word_of, model::specs::Memory::cut_to, model::specs::Fields::join, model::specs::Fields::widths_of, model::specs::Fields::total, model::specs::Fields::below))]
 pub fn value_word(tag: u32, value: u32) -> u32
     ensures { result ≡ word_of Value (tag ∷ value ∷ []) }
 {
@@ -94,6 +95,7 @@ pub fn value_word(tag: u32, value: u32) -> u32
 }
 
 // Node word 0 of a used slot.
+#[tactic(auto, unfolding(model::specs::Memory::word_of, model::specs::Memory::cut_to, model::specs::Fields::join, model::specs::Fields::widths_of, model::specs::Fields::total, model::specs::Fields::below))]
 pub fn node0(parent: u32, depth: u32, entries: u32, variables: u32) -> u32
     ensures { result ≡ word_of Node0 (1 ∷ parent ∷ depth ∷ entries ∷ variables ∷ 0 ∷ []) }
 {
@@ -103,12 +105,14 @@ pub fn node0(parent: u32, depth: u32, entries: u32, variables: u32) -> u32
     above + words::placed(entries, Kind::Node0, 3) + words::placed(variables, Kind::Node0, 4)
 }
 
+#[tactic(auto, unfolding(model::specs::Memory::word_of, model::specs::Memory::cut_to, model::specs::Fields::join, model::specs::Fields::widths_of, model::specs::Fields::total, model::specs::Fields::below))]
 pub fn node1(base: u32, position: u32) -> u32
     ensures { result ≡ word_of Node1 (base ∷ 0 ∷ position ∷ []) }
 {
     words::placed(base, Kind::Node1, 0) + words::placed(position, Kind::Node1, 2)
 }
 
+#[tactic(auto, unfolding(model::specs::Memory::word_of, model::specs::Memory::cut_to, model::specs::Fields::join, model::specs::Fields::widths_of, model::specs::Fields::total, model::specs::Fields::below))]
 pub fn node2(goal: u32, frame: u32, index: u32, tried: u32) -> u32
     ensures { result ≡ word_of Node2 (goal ∷ frame ∷ index ∷ tried ∷ 0 ∷ []) }
 {
@@ -121,37 +125,9 @@ pub fn clear(words: &mut [u32], start: usize, count: u32)
     requires { start < 1099511627776 }
     ensures { words.new ≡ cleared count start words.old }
 {
-    if start + count as usize <= words.len() {
-        clear_within(words, start, count);
-        return;
-    }
-    clear_past(words, start, count);
-}
-
-// Within the slice no store is tested, so that the compiler can set many words at once.
-fn clear_within(words: &mut [u32], start: usize, count: u32)
-    requires { start + count ≤ length words.old }
-    ensures { words.new ≡ cleared count start words.old }
-{
-    let mut at = start;
-    let mut left = count;
-    while 0 < left {
-        words[at] = 0;
-        at += 1;
-        left -= 1;
-    }
-}
-
-fn clear_past(words: &mut [u32], start: usize, count: u32)
-    requires { start < 1099511627776 }
-    ensures { words.new ≡ cleared count start words.old }
-{
-    let mut at = start;
-    let mut left = count;
-    while 0 < left {
-        words::put(words, at, 0);
-        at += 1;
-        left -= 1;
+    let end = words.len().min(start + count as usize);
+    if start < end {
+        words[start..end].fill(0);
     }
 }
 
@@ -159,11 +135,7 @@ fn clear_past(words: &mut [u32], start: usize, count: u32)
 pub fn wipe(words: &mut [u32])
     ensures { Wiped words.new }
 {
-    let mut at: usize = 0;
-    while at < words.len() {
-        words[at] = 0;
-        at += 1;
-    }
+    words.fill(0);
 }
 
 // So many cells from a place on, each the VNO of its number, from one on.
@@ -171,14 +143,8 @@ pub fn lay(cells: &mut [u32], start: usize, first: u32, count: u32)
     requires { (start < 1099511627776) × (first + count < 4294967296) }
     ensures { cells.new ≡ laid count start first cells.old }
 {
-    let mut at = start;
-    let mut number = first;
-    let mut left = count;
-    while 0 < left {
-        words::put(cells, at, value_word(0, number));
-        at += 1;
-        number += 1;
-        left -= 1;
+    for k in 0..count {
+        words::put(cells, start + k as usize, value_word(0, first + k));
     }
 }
 
@@ -187,12 +153,9 @@ pub fn undo(array: &mut [u32], trail: &[u32], start: usize, count: u32)
     requires { start < 1099511627776 }
     ensures { array.new ≡ undone count trail.now start array.old }
 {
-    let mut at = start;
-    let mut left = count;
-    while 0 < left {
+    for entry in 0..count as usize {
+        let at = start + 2 * entry;
         words::put(array, words::word_at(trail, at) as usize, 0);
-        at += 2;
-        left -= 1;
     }
 }
 
@@ -201,21 +164,46 @@ pub fn install(array: &mut [u32], trail: &[u32], start: usize, count: u32)
     requires { start < 1099511627776 }
     ensures { array.new ≡ installed count trail.now start array.old }
 {
-    let mut at = start;
-    let mut left = count;
-    while 0 < left {
-        words::put(
-            array,
-            words::word_at(trail, at) as usize,
-            words::word_at(trail, at + 1),
-        );
-        at += 2;
-        left -= 1;
+    for entry in 0..count as usize {
+        let at = start + 2 * entry;
+        let number = words::word_at(trail, at) as usize;
+        words::put(array, number, words::word_at(trail, at + 1));
     }
 }
 
-// A walk up from a slot to an ancestor, over at most so many slots: their trail entries are put into an array. The entries passed are counted on.
-pub fn climb_install(
+// What a walk up does with the trail entries of each slot that it passes: a number of them, from a trail word on, change an array.
+pub trait Leg {
+    ghost change: { ℕ → List ℕ → ℕ → List ℕ → List ℕ };
+
+    fn apply(array: &mut [u32], trail: &[u32], start: usize, count: u32)
+        requires { start < 1099511627776 }
+        ensures { array.new ≡ change count trail.now start array.old };
+}
+
+// They are taken out.
+pub struct TakeOut;
+
+impl Leg for TakeOut {
+    ghost change = { undone };
+
+    fn apply(array: &mut [u32], trail: &[u32], start: usize, count: u32) {
+        undo(array, trail, start, count);
+    }
+}
+
+// They are put in.
+pub struct PutIn;
+
+impl Leg for PutIn {
+    ghost change = { installed };
+
+    fn apply(array: &mut [u32], trail: &[u32], start: usize, count: u32) {
+        install(array, trail, start, count);
+    }
+}
+
+// A walk up from a slot to an ancestor, over at most so many slots, each of whose trail entries the leg takes out or puts in. The entries passed are counted on.
+pub fn climb<L: Leg>(
     array: &mut [u32],
     nodes: &[u32],
     trail: &[u32],
@@ -225,49 +213,18 @@ pub fn climb_install(
     passed: u32,
 ) -> u32
     requires { passed + 16 * most < 4294967296 }
-    ensures { leg array.new result ≡ climbed installed most nodes.now trail.now ancestor start array.old passed }
+    ensures { leg array.new result ≡ climbed L.change most nodes.now trail.now ancestor start array.old passed }
 {
     let mut slot = start;
-    let mut left = most;
     let mut count = passed;
-    while 0 < left {
+    for _ in 0..most {
         if slot == ancestor {
             return count;
         }
         let here = entries(nodes, slot);
-        install(array, trail, 32 * slot as usize, here);
+        L::apply(array, trail, 32 * slot as usize, here);
         count += here;
         slot = parent(nodes, slot);
-        left -= 1;
-    }
-    count
-}
-
-// The same walk, by which the entries are taken out.
-pub fn climb_undo(
-    array: &mut [u32],
-    nodes: &[u32],
-    trail: &[u32],
-    ancestor: u32,
-    start: u32,
-    most: u32,
-    passed: u32,
-) -> u32
-    requires { passed + 16 * most < 4294967296 }
-    ensures { leg array.new result ≡ climbed undone most nodes.now trail.now ancestor start array.old passed }
-{
-    let mut slot = start;
-    let mut left = most;
-    let mut count = passed;
-    while 0 < left {
-        if slot == ancestor {
-            return count;
-        }
-        let here = entries(nodes, slot);
-        undo(array, trail, 32 * slot as usize, here);
-        count += here;
-        slot = parent(nodes, slot);
-        left -= 1;
     }
     count
 }
@@ -276,50 +233,26 @@ pub fn climb_undo(
 pub fn has_child(nodes: &[u32], node: u32) -> bool
     ensures { result ≡ child_from 63 nodes.now node 1 }
 {
-    let mut slot: u32 = 1;
-    let mut left: u32 = 63;
-    while 0 < left {
-        if is_child(nodes, node, slot) {
-            return true;
-        }
-        slot += 1;
-        left -= 1;
-    }
-    false
+    (1..64).any(|slot| is_child(nodes, node, slot))
 }
 
 fn is_child(nodes: &[u32], node: u32, slot: u32) -> bool
     ensures { result ≡ (eqb (used nodes.now slot) 1 && eqb (parent nodes.now slot) node) }
 {
-    if used(nodes, slot) != 1 {
-        return false;
-    }
-    parent(nodes, slot) == node
+    used(nodes, slot) == 1 && parent(nodes, slot) == node
 }
 
 // Does another worker stand at a node.
 pub fn another_there(workers: &[u32], worker: u32, node: u32) -> bool
     ensures { result ≡ another_from 4 workers.now worker node 0 }
 {
-    let mut other: u32 = 0;
-    let mut left: u32 = 4;
-    while 0 < left {
-        if is_there(workers, worker, node, other) {
-            return true;
-        }
-        other += 1;
-        left -= 1;
-    }
-    false
+    (0..4).any(|other| is_there(workers, worker, node, other))
 }
 
 fn is_there(workers: &[u32], worker: u32, node: u32, other: u32) -> bool
     ensures { result ≡ (not (eqb other worker) && eqb (get_or workers.now other 0) node) }
 {
-    if other == worker {
-        return false;
-    }
-    words::word_at(workers, other as usize) == node
+    other != worker && words::word_at(workers, other as usize) == node
 }
 
 // The lowest free slot, 64 where all are used.

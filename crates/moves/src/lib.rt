@@ -9,6 +9,7 @@ ghost use Rattle.model.specs.Memory.{memory, word_of, cell_of, array_of};
 ghost use Rattle.model.specs.Terms.{dereference};
 ghost use Rattle.model.specs.Moves.{loaded, common_ancestor, leg, legs, moved, move, place_of, answer_word, seen_with_found, answer_from, answer};
 
+use memory::{PutIn, TakeOut};
 use model::{CellAddr, Found, Kind};
 
 // Where the paths of two slots to the root meet: the deeper one climbs.
@@ -39,8 +40,8 @@ fn move_array(array: &mut [u32], nodes: &[u32], trail: &[u32], here: u32, target
     let ancestor = common_ancestor(nodes, here, target);
     let above = memory::depth(nodes, here);
     let below = memory::depth(nodes, target);
-    let passed = memory::climb_undo(array, nodes, trail, ancestor, here, above, 0);
-    memory::climb_install(array, nodes, trail, ancestor, target, below, passed)
+    let passed = memory::climb::<TakeOut>(array, nodes, trail, ancestor, here, above, 0);
+    memory::climb::<PutIn>(array, nodes, trail, ancestor, target, below, passed)
 }
 
 // Takes a worker to a slot, and answers how many entries it passed. The promise holds whatever the cells are: a move does not look at them.

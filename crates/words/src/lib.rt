@@ -77,10 +77,8 @@ fn low(kind: Kind, i: usize) -> u32
     ensures { result ≡ below (widths_of kind) i }
 {
     let mut bits: u32 = 0;
-    let mut j: usize = 5;
-    while i < j {
+    for j in i + 1..6 {
         bits += width(kind, j);
-        j -= 1;
     }
     bits
 }

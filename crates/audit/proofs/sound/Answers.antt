@@ -1,29 +1,41 @@
 -- `audit::sound` meets its contract. Assumes nothing.
-use mathlib.Core.Path.{sym, ◌∙◌}
-use Rattle.model.specs.Damage.{sound}
+use Rattle.std.proofs.Common.{refl, sym, ◌∙◌, rules, tests}
+use Rattle.model.specs.Damage.{each, root_sound, slot_linked, slot_sound, worker_sound, sound}
+use Rattle.words.proofs.Ranges.{each-from_all}
+use Rattle.audit.proofs.AuditLaws.{and-then, and-else, and-four}
+use Rattle.audit.proofs.sound.Goals.{then-root_sound, else-root_sound, then-all, else-all}
 use Rattle.audit.proofs.sound.Goals as goal
 
-pub returns-then-not-root_sound : goal.returns-then-not-root_sound
+pub returns-then-all-2 : goal.returns-then-all-2
 unfolding sound
-returns-then-not-root_sound c = simp (sym c.root_sound.ensures ∙ c.if-not-root_sound.true)
+returns-then-all-2 c = let a = c.args in
+    let linked = slot_linked a.image.now a.query.now a.nodes.now a.cells.now a.trail.now in
+    let slots = slot_sound a.image.now a.query.now a.nodes.now a.cells.now a.trail.now in
+    let workers = worker_sound a.nodes.now a.trail.now a.arrays.now a.workers.now in
+    and-four _ _ _ (root_sound a.nodes.now) (each 64 linked 0) (each 64 slots 0) (each 4 workers 0)
+    (elim c.if-root_sound.branch [
+      | then-root_sound w ↦ and-then _ _ _ (sym c.root_sound.ensures ∙ w.if-root_sound.true) (w.value-is ∙ each-from_all _ _ _ linked 0 64 64 refl refl w.all.ensures.ran (λ x q k. search (rules, tests)) (λ x q k. search (rules, tests)))
+      | else-root_sound w ↦ and-else _ _ _ (sym c.root_sound.ensures ∙ w.if-root_sound.false) (w.value-is ∙ c.root_sound.ensures)
+    ])
+    (elim c.if-all.branch [
+      | then-all w ↦ and-then _ _ _ w.if-all.true (w.value-is ∙ each-from_all _ _ _ slots 0 64 64 refl refl w.all-then-all.ensures.ran (λ x q k. search (rules, tests)) (λ x q k. search (rules, tests)))
+      | else-all w ↦ and-else _ _ _ w.if-all.false w.value-is
+    ])
+    (and-then _ _ _ c.if-all-2.true (each-from_all _ _ _ workers 0 4 4 refl refl c.all-then-all-2.ensures.ran (λ x q k. search (rules, tests)) (λ x q k. search (rules, tests))))
 
-pub returns-then-not-slots_linked : goal.returns-then-not-slots_linked
+pub returns-else-all-2 : goal.returns-else-all-2
 unfolding sound
-returns-then-not-slots_linked c = let t₁ = sym c.root_sound.ensures ∙ c.if-not-root_sound.false in
-    let t₂ = sym c.slots_linked.ensures ∙ c.if-not-slots_linked.true in
-    simp (t₁, t₂)
-
-pub returns-then-not-slots_sound : goal.returns-then-not-slots_sound
-unfolding sound
-returns-then-not-slots_sound c = let t₁ = sym c.root_sound.ensures ∙ c.if-not-root_sound.false in
-    let t₂ = sym c.slots_linked.ensures ∙ c.if-not-slots_linked.false in
-    let t₃ = sym c.slots_sound.ensures ∙ c.if-not-slots_sound.true in
-    simp (t₁, t₂, t₃)
-
-pub returns : goal.returns
-unfolding sound
-returns c = let t₁ = sym c.root_sound.ensures ∙ c.if-not-root_sound.false in
-    let t₂ = sym c.slots_linked.ensures ∙ c.if-not-slots_linked.false in
-    let t₃ = sym c.slots_sound.ensures ∙ c.if-not-slots_sound.false in
-    simp (t₁, t₂, t₃)
-    c.workers_sound.ensures
+returns-else-all-2 c = let a = c.args in
+    let linked = slot_linked a.image.now a.query.now a.nodes.now a.cells.now a.trail.now in
+    let slots = slot_sound a.image.now a.query.now a.nodes.now a.cells.now a.trail.now in
+    let workers = worker_sound a.nodes.now a.trail.now a.arrays.now a.workers.now in
+    and-four _ _ _ (root_sound a.nodes.now) (each 64 linked 0) (each 64 slots 0) (each 4 workers 0)
+    (elim c.if-root_sound.branch [
+      | then-root_sound w ↦ and-then _ _ _ (sym c.root_sound.ensures ∙ w.if-root_sound.true) (w.value-is ∙ each-from_all _ _ _ linked 0 64 64 refl refl w.all.ensures.ran (λ x q k. search (rules, tests)) (λ x q k. search (rules, tests)))
+      | else-root_sound w ↦ and-else _ _ _ (sym c.root_sound.ensures ∙ w.if-root_sound.false) (w.value-is ∙ c.root_sound.ensures)
+    ])
+    (elim c.if-all.branch [
+      | then-all w ↦ and-then _ _ _ w.if-all.true (w.value-is ∙ each-from_all _ _ _ slots 0 64 64 refl refl w.all-then-all.ensures.ran (λ x q k. search (rules, tests)) (λ x q k. search (rules, tests)))
+      | else-all w ↦ and-else _ _ _ w.if-all.false w.value-is
+    ])
+    (and-else _ _ _ c.if-all-2.false refl)

@@ -1,8 +1,5 @@
 -- `children::has_child` meets its contract: a count that is right says whether there is a child. Assumes nothing.
-use mathlib.Core.Path.{sym, ap, ◌∙◌}
-use mathlib.Core.Bool.{not}
-use Prim.Native.Nat.{ℕ}
-use lib.Dec.{eqb}
+use Rattle.std.proofs.Common.{sym, ap, ◌∙◌, not, ℕ, eqb}
 use Rattle.children.proofs.ChildLaws.{child_from-counts}
 use Rattle.children.proofs.has_child.Goals as goal
 
