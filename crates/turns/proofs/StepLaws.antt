@@ -1,6 +1,5 @@
 -- A step from the rule that its node takes. Document 01, "A step by worker w at node N, first rule that fits". Assumes nothing.
-use Rattle.std.proofs.Common.{◌≡◌, ◌∙◌, sym, ap, refl, Bool, true, false, cond, ◌&&◌, List, ℕ, ◌≤◌, ◌<◌, Option, Some, None, eqb, ltb, leb, get_or, arith}
-use borrow.Author.Tests.{eq-eqb, ne_eqb, lt-ltb, le-ltb, eqb-true, ltb-true}
+use Rattle.std.proofs.Common.{◌≡◌, ◌∙◌, sym, ap, refl, Bool, true, false, cond, ◌&&◌, List, ℕ, ◌<◌, Option, Some, None, eqb, ltb, leb, get_or, arith, eq-eqb, lt-ltb, eqb-true, ltb-true}
 use Rattle.model.specs.Fields.{sequential, clause_count}
 use Rattle.model.specs.Memory.{has_goal, tried}
 use Rattle.model.specs.Image.{predicate_word}
@@ -8,23 +7,9 @@ use Rattle.model.specs.Steps.{View, goal_of, predicate_of, live, has_child, anot
 use Rattle.turns.specs.Live.{live_goal}
 
 module _ (image query nodes : List ℕ) (node : ℕ) where
-  pub live_goal-none : (has_goal nodes node ≡ 1 → ⊥) → None ≡ live_goal image query nodes node
-  unfolding live_goal live
-  live_goal-none none = simp (ne_eqb (has_goal nodes node) 1 none)
-
-  module _ (goal : has_goal nodes node ≡ 1) where
-    pub live-untried : tried nodes node < clause_count (predicate_word image (predicate_of image query nodes node)) → live image query nodes node ≡ true
-    unfolding live
-    live-untried h = simp (eq-eqb (has_goal nodes node) 1 goal, lt-ltb (tried nodes node) (clause_count (predicate_word image (predicate_of image query nodes node))) h)
-
-    pub live_goal-tried : clause_count (predicate_word image (predicate_of image query nodes node)) ≤ tried nodes node → None ≡ live_goal image query nodes node
-    unfolding live_goal live
-    live_goal-tried h = simp (eq-eqb (has_goal nodes node) 1 goal, le-ltb (tried nodes node) (clause_count (predicate_word image (predicate_of image query nodes node))) h)
-
-    pub live_goal-untried : tried nodes node < clause_count (predicate_word image (predicate_of image query nodes node))
-        → Some (predicate_of image query nodes node, goal_of image query nodes node) ≡ live_goal image query nodes node
-    unfolding live_goal
-    live_goal-untried h = simp (live-untried h)
+  pub live-untried : has_goal nodes node ≡ 1 → tried nodes node < clause_count (predicate_word image (predicate_of image query nodes node)) → live image query nodes node ≡ true
+  unfolding live
+  live-untried goal h = simp (eq-eqb (has_goal nodes node) 1 goal, lt-ltb (tried nodes node) (clause_count (predicate_word image (predicate_of image query nodes node))) h)
 
   -- a live node has a goal with clauses untried
   pub live-holds : live image query nodes node ≡ true → (has_goal nodes node ≡ 1) × (tried nodes node < clause_count (predicate_word image (predicate_of image query nodes node)))

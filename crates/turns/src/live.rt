@@ -12,6 +12,7 @@ use crate::taking::take_next;
 use model::Outcome;
 
 // Where a node is live: the predicate that its first goal calls, and the goal's place.
+#[tactic(auto, unfolding(crate::specs::Live::live_goal, model::specs::Steps::live))]
 pub fn live_goal<'a>(
     image: &'a [u32],
     query: &'a [u32],
@@ -40,10 +41,7 @@ fn waits(nodes: &[u32], children: &[u32], word: u32, node: u32) -> bool
     requires { Counted nodes.now children.now }
     ensures { result ≡ (eqb (sequential word) 1 && has_child nodes.now node) }
 {
-    if words::sequential(word) != 1 {
-        return false;
-    }
-    children::has_child(nodes, children, node)
+    words::sequential(word) == 1 && children::has_child(nodes, children, node)
 }
 
 // Rules 5 to 7, at a live node.
