@@ -1,9 +1,6 @@
 -- Words stored in a row, a list that is cleared whole, and a fresh memory. Assumes nothing.
-use mathlib.Core.Path.{◌≡◌, refl, ap, ap₂, ◌∙◌}
-use mathlib.Core.List.{List, [], ◌∷◌, ◌++◌, append-nil}
-use Prim.Native.Nat.{ℕ, zero, suc, ◌+◌, ◌≤◌}
-use native.Mathlib.Omega.{arith}
-use lib.ListN.{length, get_or, set, drop, replicate, length-replicate, drop_of_length-le}
+use Rattle.std.proofs.Common.{◌≡◌, refl, ap, ap₂, ◌∙◌, List, [], ◌∷◌, ◌++◌, append-nil, ℕ, zero, suc, ◌+◌, ◌≤◌, arith, length, get_or, set, drop, replicate, drop_of_length-le}
+use Rattle.std.proofs.Math.ListN.{length-replicate}
 use Rattle.model.specs.declared.Kind.TheVariants.{Node0, Node2}
 use Rattle.model.specs.Fields.{variables}
 use Rattle.model.specs.Memory.{Memory, memory, word_of, cleared}

@@ -1,12 +1,5 @@
 -- One turn of the climb to the common ancestor and of a leg, how many entries a leg passes, and a move of its legs. Assumes nothing.
-use mathlib.Core.Path.{◌≡◌, refl, sym, ap, ap₂, ◌∙◌, subst}
-use mathlib.Core.Bool.{Bool, true, false}
-use mathlib.Core.List.{List, ◌++◌}
-use Prim.Native.Nat.{ℕ, zero, suc, ◌+◌, ◌*◌, ◌-◌, ◌≤◌, ◌<◌}
-use native.Mathlib.Omega.{arith}
-use lib.Dec.{eqb}
-use lib.ListN.{get_or, set, take, drop}
-use borrow.Author.Tests.{eq-eqb, ne_eqb, lt-ltb, le-ltb}
+use Rattle.std.proofs.Common.{◌≡◌, refl, sym, ap, ap₂, ◌∙◌, subst, Bool, true, false, List, ◌++◌, ℕ, zero, suc, ◌+◌, ◌*◌, ◌-◌, ◌≤◌, ◌<◌, arith, eqb, get_or, set, take, drop, eq-eqb, ne_eqb, lt-ltb, le-ltb}
 use Rattle.model.specs.Memory.{memory, parent, depth, entries, cell_of, with_array}
 use Rattle.model.specs.Steps.{undone}
 use Rattle.model.specs.Moves.{meeting, common_ancestor, Leg, leg, installed, climbed, legs, moved, move}

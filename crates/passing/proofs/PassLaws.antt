@@ -1,11 +1,6 @@
 -- One turn of each loop over a head's arguments and over clauses, by what was found there. Assumes nothing.
-use mathlib.Core.Path.{◌≡◌, refl, sym, ap, ◌∙◌}
-use mathlib.Core.Bool.{Bool, true, false}
-use mathlib.Core.List.{List}
-use Prim.Native.Nat.{ℕ, zero, suc, ◌+◌, ◌-◌, ◌≤◌, ◌<◌}
-use native.Mathlib.Omega.{arith}
-use lib.ListN.{length, get_or}
-use borrow.Author.Tests.{eq-eqb, ne_eqb, lt-ltb, le-ltb, le-leb, lt-leb}
+use Rattle.std.proofs.Common.{◌≡◌, refl, sym, ap, ◌∙◌, Bool, true, false, List, ℕ, zero, suc, ◌+◌, ◌-◌, ◌≤◌, ◌<◌, arith, length, get_or, eq-eqb, ne_eqb, lt-ltb, le-ltb, le-leb}
+use borrow.Author.Tests.{lt-leb}
 use Rattle.model.specs.declared.Found.{Found}
 use Rattle.model.specs.declared.Found.TheVariants.{Unbound, Constant}
 use Rattle.model.specs.declared.VarNo.{VarNo}

@@ -1,9 +1,5 @@
 -- Passing over the clauses of a live node, from the parts that its function finds. Assumes nothing.
-use mathlib.Core.Path.{◌≡◌, refl, ap, ◌∙◌}
-use mathlib.Core.Bool.{Bool, true, false, cond}
-use mathlib.Core.List.{List}
-use Prim.Native.Nat.{ℕ, ◌+◌, ◌-◌, ◌*◌, min}
-use native.Mathlib.Omega.{arith}
+use Rattle.std.proofs.Common.{◌≡◌, refl, ap, ◌∙◌, Bool, true, false, cond, List, ℕ, ◌+◌, ◌-◌, ◌*◌, min, arith}
 use Rattle.model.specs.Fields.{arity, clause_count}
 use Rattle.model.specs.Image.{predicate_word}
 use Rattle.model.specs.Memory.{base, own_variables, frame, tried, first_of}

@@ -1,7 +1,5 @@
 -- Rules 1 to 4 by the tests that lead to each. Document 01, "The steps". Assumes nothing.
-use mathlib.Core.Path.{◌≡◌, refl}
-use mathlib.Core.Bool.{Bool, true, false}
-use Prim.Native.Nat.{ℕ}
+use Rattle.std.proofs.Common.{◌≡◌, refl, Bool, true, false, ℕ}
 use Rattle.model.specs.declared.Outcome.TheVariants.{Back, Left, Wait, Finished}
 use Rattle.model.specs.Steps.{View, stepped, left_for, freed, dead_rule}
 

@@ -1,5 +1,5 @@
 -- `engine::last_count` meets its contract. Assumes nothing.
-use mathlib.Core.Path.{sym, ap}
+use Rattle.std.proofs.Common.{sym, ap}
 use Rattle.engine.specs.Runs.{last_count}
 use Rattle.engine.proofs.last_count.Goals as goal
 

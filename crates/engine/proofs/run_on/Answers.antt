@@ -1,7 +1,5 @@
 -- `engine::run_on` meets its contract. The loop's invariant: what is left to do gives the whole, and what is at hand is true. Assumes nothing.
-use mathlib.Core.Path.{refl, sym, ap, ◌∙◌}
-use Prim.Native.Nat.{ℕ}
-use native.Mathlib.Omega.{arith}
+use Rattle.std.proofs.Common.{refl, sym, ap, ◌∙◌, ℕ, arith}
 use Rattle.model.specs.Steps.{view, ran}
 use Rattle.engine.proofs.StopLaws.{run_from-end, run_from-stops, run_from-more}
 use Rattle.engine.proofs.RunLaws.{progress-some, progress-run, progress-did}

@@ -1,7 +1,5 @@
 -- `engine::run_on` meets its contract. The loop's invariant: what is left to do gives the whole, and what is at hand is true. Assumes nothing.
-use mathlib.Core.Path.{◌≡◌}
-use Prim.Native.Nat.{◌+◌}
-use lib.ListN.{length}
+use Rattle.std.proofs.Common.{◌≡◌, ◌+◌, length}
 use Rattle.model.specs.Steps.{view, run_from}
 use Rattle.turns.specs.Hand.{AtHand}
 use Rattle.engine.proofs.run_on.Given as goal

@@ -1,5 +1,5 @@
 -- `engine::stops` meets its contract. Assumes nothing.
-use mathlib.Core.Path.{sym, ap}
+use Rattle.std.proofs.Common.{sym, ap}
 use Rattle.engine.specs.Runs.{stops}
 use Rattle.engine.proofs.stops.Goals as goal
 

@@ -1,7 +1,5 @@
 -- `moves::common_ancestor` meets its contract. The loop's invariant: what is left to do gives the whole. Assumes nothing.
-use mathlib.Core.Path.{ap₂, ◌∙◌}
-use Prim.Native.Nat.{ℕ, ◌+◌, ◌-◌}
-use native.Mathlib.Omega.{arith}
+use Rattle.std.proofs.Common.{ap₂, ◌∙◌, ℕ, ◌+◌, ◌-◌, arith}
 use Rattle.model.specs.Moves.{meeting}
 use Rattle.memory.proofs.FieldBounds.{depth-lt}
 use Rattle.moves.proofs.MoveLaws.{meeting-end, meeting-met, meeting-other, meeting-slot}

@@ -1,5 +1,5 @@
 -- `moves::common_ancestor` meets its contract. The loop's invariant: what is left to do gives the whole. Assumes nothing.
-use mathlib.Core.Path.{◌≡◌}
+use Rattle.std.proofs.Common.{◌≡◌}
 use Rattle.model.specs.Moves.{meeting, common_ancestor}
 use Rattle.moves.proofs.common_ancestor.Given as goal
 

@@ -1,6 +1,5 @@
 -- `moves::move_array` meets its contract. Assumes nothing.
-use mathlib.Core.Path.{◌∙◌}
-use native.Mathlib.Omega.{arith}
+use Rattle.std.proofs.Common.{◌∙◌, arith}
 use Rattle.model.specs.Steps.{undone}
 use Rattle.memory.proofs.FieldBounds.{depth-lt}
 use Rattle.moves.proofs.MoveLaws.{leg-passed, legs-of}

@@ -1,6 +1,5 @@
 -- `moves::place_of` meets its contract. The loop's invariant: what is left to do gives the whole. Assumes nothing.
-use mathlib.Core.Path.{◌∙◌}
-use native.Mathlib.Omega.{arith}
+use Rattle.std.proofs.Common.{◌∙◌, arith}
 use Rattle.moves.proofs.ReadLaws.{place-start, place_here, place-later, place_end}
 use Rattle.moves.proofs.place_of.Goals as goal
 

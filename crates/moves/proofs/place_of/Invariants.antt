@@ -1,7 +1,5 @@
 -- `moves::place_of` meets its contract. The loop's invariant: what is left to do gives the whole. Assumes nothing.
-use mathlib.Core.Path.{◌≡◌}
-use Prim.Native.Nat.{◌-◌, ◌≤◌}
-use lib.ListN.{take}
+use Rattle.std.proofs.Common.{◌≡◌, ◌-◌, ◌≤◌, take}
 use Rattle.model.specs.Moves.{place_of}
 use Rattle.moves.proofs.ReadLaws.{place_from}
 use Rattle.moves.proofs.place_of.Given as goal

@@ -1,7 +1,5 @@
 -- `moves::read_word` meets its contract. Assumes nothing.
-use mathlib.Core.Path.{sym, ap, ◌∙◌}
-use native.Mathlib.Omega.{arith}
-use lib.ListN.{set}
+use Rattle.std.proofs.Common.{sym, ap, ◌∙◌, arith, set}
 use Rattle.moves.proofs.ReadLaws.{constant-word, constant-seen, variable-word, old-seen, new-seen}
 use Rattle.moves.proofs.read_word.Goals as goal
 

@@ -1,8 +1,6 @@
 -- `moves::read_words` meets its contract. The loop's invariant: what is left to do gives the whole. Assumes nothing.
-use mathlib.Core.Path.{refl, ◌∙◌}
-use Prim.Native.Nat.{ℕ, ◌-◌}
-use native.Mathlib.Omega.{arith}
-use lib.ListN.{take, length-replicate}
+use Rattle.std.proofs.Common.{refl, ◌∙◌, ℕ, ◌-◌, arith, take}
+use Rattle.std.proofs.Math.ListN.{length-replicate}
 use Rattle.moves.proofs.ReadLaws.{answered-turn, answered-start, answered-end, answered-whole}
 use Rattle.moves.proofs.read_words.Goals as goal
 

@@ -1,8 +1,5 @@
 -- `moves::read_words` meets its contract. The loop's invariant: what is left to do gives the whole. Assumes nothing.
-use mathlib.Core.List.{[]}
-use mathlib.Core.Path.{◌≡◌}
-use Prim.Native.Nat.{◌-◌, ◌≤◌}
-use lib.ListN.{length, take}
+use Rattle.std.proofs.Common.{[], ◌≡◌, ◌-◌, ◌≤◌, length, take}
 use Rattle.moves.proofs.ReadLaws.{answered}
 use Rattle.moves.proofs.read_words.Given as goal
 

@@ -1,5 +1,5 @@
 -- `moves::wipe` meets its contract. Assumes nothing.
-use mathlib.Core.Path.{◌∙◌}
+use Rattle.std.proofs.Common.{◌∙◌}
 use Rattle.moves.proofs.LoadLaws.{cleared-all, same_memory}
 use Rattle.moves.proofs.wipe.Goals as goal
 

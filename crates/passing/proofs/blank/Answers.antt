@@ -1,5 +1,5 @@
 -- `passing::blank` meets its contract. Assumes nothing.
-use mathlib.Core.Path.{◌∙◌}
+use Rattle.std.proofs.Common.{◌∙◌}
 use Rattle.passing.proofs.PassLaws.{blank-short, blank-long}
 use Rattle.passing.proofs.blank.Goals as goal
 

@@ -1,8 +1,5 @@
 -- `passing::clashes` meets its contract. The loop's invariant: what is left to do gives the whole. Assumes nothing.
-use mathlib.Core.Path.{◌≡◌, sym, ap₂, ◌∙◌}
-use Prim.Native.Nat.{ℕ, ◌+◌, ◌-◌}
-use native.Mathlib.Nat.{add-zero}
-use native.Mathlib.Omega.{arith}
+use Rattle.std.proofs.Common.{◌≡◌, sym, ap₂, ◌∙◌, ℕ, ◌+◌, ◌-◌, add-zero, arith}
 use Rattle.passing.specs.Clash.{compare, clashes}
 use Rattle.passing.proofs.PassLaws.{clashes-end, clashes-differ, clashes-unsure, clashes-turn}
 use Rattle.passing.proofs.clashes.Goals as goal

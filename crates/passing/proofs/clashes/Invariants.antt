@@ -1,6 +1,5 @@
 -- `passing::clashes` meets its contract. The loop's invariant: what is left to do gives the whole. Assumes nothing.
-use mathlib.Core.Path.{◌≡◌}
-use Prim.Native.Nat.{◌+◌}
+use Rattle.std.proofs.Common.{◌≡◌, ◌+◌}
 use Rattle.passing.specs.Clash.{clashes}
 use Rattle.passing.proofs.clashes.Given as goal
 

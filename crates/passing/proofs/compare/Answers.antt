@@ -1,5 +1,5 @@
 -- `passing::compare` meets its contract. Assumes nothing.
-use mathlib.Core.Path.{sym, ◌∙◌}
+use Rattle.std.proofs.Common.{sym, ◌∙◌}
 use Rattle.passing.proofs.PassLaws.{compare-variable, compare-equal, compare-differ, compare-takes, compare-unsure}
 use Rattle.passing.proofs.compare.Goals as goal
 

@@ -1,5 +1,5 @@
 -- `passing::fails_plainly` meets its contract. Assumes nothing.
-use mathlib.Core.Path.{sym, ap, ◌∙◌}
+use Rattle.std.proofs.Common.{sym, ap, ◌∙◌}
 use Rattle.model.specs.Fields.{variables}
 use Rattle.passing.proofs.PassLaws.{fails_plainly-variables, fails_plainly-ground}
 use Rattle.passing.proofs.fails_plainly.Goals as goal

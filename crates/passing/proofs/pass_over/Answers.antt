@@ -1,8 +1,5 @@
 -- `passing::pass_over` meets its contract. The loop's invariant: what is left to do gives the whole, and the place is so many clauses on. Assumes nothing.
-use mathlib.Core.List.{List}
-use mathlib.Core.Path.{refl, sym, ap, ap₂, ◌∙◌}
-use Prim.Native.Nat.{ℕ, ◌+◌, ◌-◌}
-use native.Mathlib.Omega.{arith}
+use Rattle.std.proofs.Common.{List, refl, sym, ap, ap₂, ◌∙◌, ℕ, ◌+◌, ◌-◌, arith}
 use Rattle.model.specs.Fields.{clause_length}
 use Rattle.goals.proofs.PlaceLaws.{clause_from-end}
 use Rattle.memory.proofs.FieldBounds.{clause_length-lt}

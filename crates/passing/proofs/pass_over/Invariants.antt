@@ -1,7 +1,5 @@
 -- `passing::pass_over` meets its contract. The loop's invariant: what is left to do gives the whole, and the place is so many clauses on. Assumes nothing.
-use mathlib.Core.Path.{◌≡◌}
-use Prim.Native.Nat.{◌+◌, ◌*◌, ◌≤◌}
-use lib.ListN.{length}
+use Rattle.std.proofs.Common.{◌≡◌, ◌+◌, ◌*◌, ◌≤◌, length}
 use Rattle.model.specs.Decoding.{clause_from}
 use Rattle.passing.specs.Passing.{pass_over}
 use Rattle.passing.proofs.pass_over.Given as goal

@@ -1,7 +1,5 @@
 -- `passing::skip` meets its contract. Assumes nothing.
-use mathlib.Core.Path.{sym, ap, ap₂, ◌∙◌}
-use Prim.Native.Nat.{ℕ, ◌-◌, min}
-use native.Mathlib.Omega.{arith}
+use Rattle.std.proofs.Common.{sym, ap, ap₂, ◌∙◌, ℕ, ◌-◌, min, arith}
 use Rattle.model.specs.Fields.{arity, clause_count}
 use Rattle.goals.proofs.PlaceLaws.{clause_from-end}
 use Rattle.memory.proofs.FieldBounds.{arity-lt, clause_count-lt, own_variables-lt, base-lt, frame-lt}

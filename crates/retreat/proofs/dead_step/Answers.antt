@@ -1,10 +1,5 @@
 -- `retreat::dead_step` meets its contract. Assumes nothing.
-use mathlib.Core.List.{List}
-use mathlib.Core.Path.{sym, ap, ap₂, ◌∙◌}
-use Prim.Native.Nat.{ℕ, ◌*◌}
-use lib.ListN.{set}
-use lib.Dec.{eqb}
-use borrow.Author.Tests.{eq-eqb, ne_eqb}
+use Rattle.std.proofs.Common.{List, sym, ap, ap₂, ◌∙◌, ℕ, ◌*◌, set, eqb, eq-eqb, ne_eqb}
 use Rattle.model.specs.Steps.{view, stepped, another_there, undone, left_for, freed}
 use Rattle.model.specs.Memory.{parent, entries, first_of, cleared}
 use Rattle.model.specs.declared.Outcome.TheVariants.{Back, Left}

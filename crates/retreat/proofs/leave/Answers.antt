@@ -1,7 +1,5 @@
 -- `retreat::leave` meets its contract. Assumes nothing.
-use mathlib.Core.Path.{ap, ◌∙◌}
-use Prim.Native.Nat.{ℕ}
-use lib.ListN.{set}
+use Rattle.std.proofs.Common.{ap, ◌∙◌, ℕ, set}
 use Rattle.model.specs.Steps.{undone}
 use Rattle.model.specs.Memory.{first_of}
 use Rattle.retreat.proofs.leave.Goals as goal
