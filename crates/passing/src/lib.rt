@@ -151,6 +151,7 @@ fn blank(words: &[u32], start: usize, count: u32) -> bool
 }
 
 // Passes over clauses of a live node's predicate from a position on, at most so many, if the next is sure to fail and the child's trail is still empty. Answers how many, and the place behind them.
+#[tactic(auto, unfolding(crate::specs::Passing::skipped, model::specs::Decoding::clause_from))]
 pub fn skip<'a>(
     image: &'a [u32],
     query: &'a [u32],
