@@ -17,8 +17,8 @@ pub fn common_ancestor(nodes: &[u32], slot: u32, other: u32) -> u32
 {
     let mut here = slot;
     let mut there = other;
-    let mut left = memory::depth(nodes, slot) + memory::depth(nodes, other);
-    while 0 < left {
+    let most = memory::depth(nodes, slot) + memory::depth(nodes, other);
+    for _ in 0..most {
         if here == there {
             return here;
         }
@@ -27,7 +27,6 @@ pub fn common_ancestor(nodes: &[u32], slot: u32, other: u32) -> u32
         } else {
             here = memory::parent(nodes, here);
         }
-        left -= 1;
     }
     here
 }
@@ -74,11 +73,11 @@ fn wipe(
     requires { (length nodes.old ≡ 256) × (length cells.old ≡ 2048) × (length trail.old ≡ 2048) × (length arrays.old ≡ 8192) × (length workers.old ≡ 4) }
     ensures { memory nodes.new cells.new trail.new arrays.new workers.new ≡ memory (replicate 256 0) (replicate 2048 0) (replicate 2048 0) (replicate 8192 0) (replicate 4 0) }
 {
-    memory::clear(nodes, 0, 256);
-    memory::clear(cells, 0, 2048);
-    memory::clear(trail, 0, 2048);
-    memory::clear(arrays, 0, 8192);
-    memory::clear(workers, 0, 4);
+    nodes.fill(0);
+    cells.fill(0);
+    trail.fill(0);
+    arrays.fill(0);
+    workers.fill(0);
 }
 
 // The memory afresh: the query's variables and its first goal at the root, all workers there.
