@@ -1,9 +1,5 @@
 -- A run from its turns: so many steps that each say Tried, or one step. Document 01, "A run takes steps until". Assumes nothing.
-use mathlib.Core.Path.{◌≡◌, refl, sym, ap, ap₂, subst, ◌∙◌}
-use mathlib.Core.List.{List}
-use Prim.Native.Nat.{ℕ, zero, suc, ◌+◌, ◌-◌, ◌≤◌, ◌<◌}
-use native.Mathlib.Omega.{arith}
-use native.Mathlib.Nat.{add-zero, sub-zero}
+use Rattle.std.proofs.Common.{◌≡◌, refl, sym, ap, subst, ◌∙◌, List, ℕ, zero, suc, ◌+◌, ◌-◌, ◌≤◌, ◌<◌, arith, add-zero}
 use Rattle.model.specs.declared.Outcome.{Outcome}
 use Rattle.model.specs.declared.Outcome.TheVariants.{Tried}
 use Rattle.model.specs.Steps.{View, stepped, step, run_from}
@@ -14,16 +10,15 @@ use Rattle.engine.specs.Runs.{stops}
 use Rattle.engine.proofs.StopLaws.{run_from-more}
 
 -- so many steps that each say Tried are the first of a run
-tries-run : (k left count : ℕ) (image query : List ℕ) (worker : ℕ) (v after : View) → k ≤ left → Tries k image query worker v after
-    → run_from (left - k) (count + k) image query worker after ≡ run_from left count image query worker v
+tries-run : (k budget count : ℕ) (image query : List ℕ) (worker : ℕ) (v after : View) → k ≤ budget - count → Tries k image query worker v after
+    → run_from (budget - (count + k)) (count + k) image query worker after ≡ run_from (budget - count) count image query worker v
 unfolding stops
-tries-run zero left count image query worker v after h same =
-    ap₂ (λ (n m : ℕ). run_from n m image query worker after) (sub-zero left) (add-zero count) ∙ ap (run_from left count image query worker) (sym same)
-tries-run (suc k) left count image query worker v after h steps =
-    let e : left - suc k ≡ left - 1 - k = omega arith in
+tries-run zero budget count image query worker v after h same =
+    ap (λ (n : ℕ). run_from (budget - n) n image query worker after) (add-zero count) ∙ ap (run_from (budget - count) count image query worker) (sym same)
+tries-run (suc k) budget count image query worker v after h steps =
     let c : count + suc k ≡ count + 1 + k = omega arith in
-    ap₂ (λ (n m : ℕ). run_from n m image query worker after) e c ∙ tries-run k (left - 1) (count + 1) image query worker steps.0 after (omega arith) steps.1.1
-    ∙ run_from-more count image query worker v steps.0 Tried steps.1.0 left (omega arith) refl
+    ap (λ (n : ℕ). run_from (budget - n) n image query worker after) c ∙ tries-run k budget (count + 1) image query worker steps.0 after (omega arith) steps.1.1
+    ∙ run_from-more budget count image query worker v steps.0 Tried steps.1.0 (omega arith) refl
 
 tries-one : (image query : List ℕ) (worker : ℕ) (v after : View) → Tries 1 image query worker v after → stepped Tried after ≡ step image query v worker
 tries-one image query worker v after steps = ap (stepped Tried) (sym steps.1.1) ∙ steps.1.0
@@ -42,8 +37,8 @@ module _ (image query : List ℕ) (worker : ℕ) (v after : View) (progress : Pr
   pub progress-some : (most k : ℕ) → progress ≡ Passed k → Progressed progress most image query worker v after → (0 < k) × (k ≤ most)
   progress-some most k is did = let p = subst (λ (g : Progress). Progressed g most image query worker v after) is did in (p.0, p.1)
 
-  pub progress-run : (left k count : ℕ) → progress ≡ Passed k → Progressed progress left image query worker v after
-      → run_from (left - k) (count + k) image query worker after ≡ run_from left count image query worker v
-  progress-run left k count is did =
-      let p = subst (λ (g : Progress). Progressed g left image query worker v after) is did in
-      tries-run k left count image query worker v after p.1 p.2
+  pub progress-run : (budget k count : ℕ) → progress ≡ Passed k → Progressed progress (budget - count) image query worker v after
+      → run_from (budget - (count + k)) (count + k) image query worker after ≡ run_from (budget - count) count image query worker v
+  progress-run budget k count is did =
+      let p = subst (λ (g : Progress). Progressed g (budget - count) image query worker v after) is did in
+      tries-run k budget count image query worker v after p.1 p.2

@@ -63,45 +63,30 @@ pub fn step<'a>(
     }
 }
 
+#[tactic(auto, unfolding(crate::specs::Runs::stops))]
 fn stops(outcome: Outcome) -> bool
     ensures { result ≡ stops outcome }
 {
-    match outcome {
-        Outcome::Tried => false,
-        Outcome::Extended => false,
-        Outcome::Answer => true,
-        Outcome::Back => false,
-        Outcome::Left => false,
-        Outcome::Wait => true,
-        Outcome::Finished => true,
-        Outcome::Spent => true,
-        Outcome::Full => true,
-    }
+    matches!(
+        outcome,
+        Outcome::Answer | Outcome::Wait | Outcome::Finished | Outcome::Spent | Outcome::Full
+    )
 }
 
 // Whether a head failed: those behind it may be sure to.
 fn failed(outcome: Outcome) -> bool {
-    match outcome {
-        Outcome::Tried => true,
-        _ => false,
-    }
+    matches!(outcome, Outcome::Tried)
 }
 
 // The steps of a run that stops at an outcome after so many: Full is not counted.
+#[tactic(auto, unfolding(crate::specs::Runs::last_count))]
 fn last_count(count: u32, outcome: Outcome) -> u32
     requires { count + 1 < 4294967296 }
     ensures { result ≡ last_count count outcome }
 {
     match outcome {
-        Outcome::Tried => count + 1,
-        Outcome::Extended => count + 1,
-        Outcome::Answer => count + 1,
-        Outcome::Back => count + 1,
-        Outcome::Left => count + 1,
-        Outcome::Wait => count + 1,
-        Outcome::Finished => count + 1,
-        Outcome::Spent => count + 1,
         Outcome::Full => count,
+        _ => count + 1,
     }
 }
 
@@ -123,37 +108,31 @@ pub fn run_on<'a>(
     requires { AtHand image.now query.now nodes.old places.old clauses.old children.old }
     ensures { (ran result.outcome result.count (view nodes.new cells.new trail.new array.new workers.new) ≡ run_from budget 0 image.now query.now worker (view nodes.old cells.old trail.old array.old workers.old)) × AtHand image.now query.now nodes.new places.new clauses.new children.new }
 {
-    let mut count: u32 = 0;
-    let mut left = budget;
+    let mut count = 0;
     let mut look = false;
-    while 0 < left {
+    // No `for`: a turn may be many steps.
+    while count < budget {
+        let left = budget - count;
         match turns::advance(
             image, query, nodes, cells, trail, array, workers, places, clauses, children, worker,
             look, left,
         ) {
             Progress::Passed(passed) => {
                 count += passed;
-                left -= passed;
                 look = true;
             }
+            Progress::Did(outcome) if stops(outcome) => {
+                let count = last_count(count, outcome);
+                return RunEnd { outcome, count };
+            }
             Progress::Did(outcome) => {
-                if stops(outcome) {
-                    let steps = last_count(count, outcome);
-                    return RunEnd {
-                        outcome: outcome,
-                        count: steps,
-                    };
-                }
                 count += 1;
-                left -= 1;
                 look = failed(outcome);
             }
         }
     }
-    RunEnd {
-        outcome: Outcome::Spent,
-        count: count,
-    }
+    let outcome = Outcome::Spent;
+    RunEnd { outcome, count }
 }
 
 // Steps of a worker until Answer, Wait, Finished or Full, or until the budget is used.

@@ -1,2 +1,3 @@
 pub mod LoopLaws
 pub mod FieldBounds
+pub mod FreeLaws

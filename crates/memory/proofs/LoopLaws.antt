@@ -6,7 +6,7 @@ use borrow.Author.Tests.{eq-eqb, ne_eqb}
 use borrow.Rule.Slice.PartMut.{put_mid, post_of}
 use Rattle.words.proofs.Ranges.{left-after, none-left}
 use Rattle.model.specs.Memory.{cleared, vno_word, used, parent, entries}
-use Rattle.model.specs.Steps.{child_from, another_from, free_from, undone, laid}
+use Rattle.model.specs.Steps.{child_from, another_from, undone, laid}
 use Rattle.model.specs.Damage.{each}
 use Rattle.model.specs.Moves.{installed, climbed, leg}
 
@@ -121,21 +121,6 @@ module _ (workers : List ℕ) (worker node : ℕ) where
   pub another_from-miss : (left other : ℕ) → worker_test other ≡ false → another_from (suc left) workers worker node other ≡ another_from left workers worker node (other + 1)
   unfolding another_from
   another_from-miss left other e = rw (e, another_from) refl
-
-pub free_from-end : (nodes : List ℕ) (left slot : ℕ) → left ≤ 0 → slot ≡ free_from left nodes slot
-unfolding free_from
-free_from-end nodes zero slot h = refl
-free_from-end nodes (suc left) slot h = absurd (omega arith)
-
-pub free_from-hit : (nodes : List ℕ) (left slot : ℕ) → 0 < left → (used nodes slot ≡ 1 → ⊥) → slot ≡ free_from left nodes slot
-unfolding free_from
-free_from-hit nodes zero slot h e = absurd (omega arith)
-free_from-hit nodes (suc left) slot h e = rw (ne_eqb (used nodes slot) 1 e, free_from) refl
-
-pub free_from-miss : (nodes : List ℕ) (left slot : ℕ) → 0 < left → used nodes slot ≡ 1 → free_from (left - 1) nodes (slot + 1) ≡ free_from left nodes slot
-unfolding free_from
-free_from-miss nodes zero slot h e = absurd (omega arith)
-free_from-miss nodes (suc left) slot h e = let s : suc left - 1 ≡ left = omega arith in rw (s, eq-eqb (used nodes slot) 1 e, free_from) refl
 
 -- a walk up, whatever it does to the array, k slots of so many climbed: it has climbed as often as it may, it is there, or it goes on
 module _ (change : ℕ → List ℕ → ℕ → List ℕ → List ℕ) (nodes trail : List ℕ) (ancestor : ℕ) where

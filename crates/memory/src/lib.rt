@@ -1,7 +1,7 @@
 // The shared memory in words: document 01, "Shared memory". Reads past the end give 0, stores past the end do nothing.
 #![tactic(auto)]
 
-ghost use Rattle.std.specs.Prelude.{◌≡◌, List, [], ◌∷◌, ℕ, ◌+◌, ◌*◌, ◌≤◌, ◌<◌, length, get_or, ◌&&◌, not, eqb};
+ghost use Rattle.std.specs.Prelude.{◌≡◌, List, [], ◌∷◌, ℕ, ◌+◌, ◌*◌, ◌≤◌, ◌<◌, length, get_or, ◌&&◌, not, eqb, unwrap_or, IfSome};
 ghost use Rattle.model.specs.declared.Kind.TheVariants.{Node0, Node1, Node2, Value};
 ghost use Rattle.model.specs.Fields.{widths_of, field};
 ghost use Rattle.model.specs.Memory.{node_word, used, parent, depth, entries, own_variables, base, clause_position, has_goal, frame, goal_index, tried, word_of, cleared};
@@ -255,23 +255,16 @@ fn is_there(workers: &[u32], worker: u32, node: u32, other: u32) -> bool
     other != worker && words::word_at(workers, other as usize) == node
 }
 
-// The lowest free slot, 64 where all are used.
-pub fn lowest_free(nodes: &[u32]) -> u32
-    ensures { result ≡ free_from 64 nodes.now 0 }
+// The lowest free slot, where not all are used.
+pub fn lowest_free(nodes: &[u32]) -> Option<u32>
+    ensures free { unwrap_or result 64 ≡ free_from 64 nodes.now 0 }
+    ensures slot { IfSome result (λ slot. slot < 64) }
 {
-    let mut slot: u32 = 0;
-    let mut left: u32 = 64;
-    while 0 < left {
-        if used(nodes, slot) != 1 {
-            return slot;
-        }
-        slot += 1;
-        left -= 1;
-    }
-    slot
+    (0..64).find(|slot| used(nodes, *slot) != 1)
 }
 
 // A node's count of clauses tried rises.
+#[tactic(auto, unfolding(model::specs::Steps::raised))]
 pub fn raise(nodes: &mut [u32], node: u32)
     ensures { nodes.new ≡ raised nodes.old node }
 {

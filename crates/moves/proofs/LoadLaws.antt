@@ -1,12 +1,8 @@
 -- Words stored in a row, a list that is cleared whole, and a fresh memory. Assumes nothing.
-use mathlib.Core.Path.{◌≡◌, refl, ap, ap₂, ◌∙◌}
-use mathlib.Core.List.{List, [], ◌∷◌, ◌++◌, append-nil}
-use Prim.Native.Nat.{ℕ, zero, suc, ◌+◌, ◌≤◌}
-use native.Mathlib.Omega.{arith}
-use lib.ListN.{length, get_or, set, drop, replicate, length-replicate, drop_of_length-le}
+use Rattle.std.proofs.Common.{◌≡◌, refl, ap, ap₂, ◌∙◌, List, [], ◌∷◌, ◌++◌, ℕ, suc, ◌+◌, ◌≤◌, arith, length, get_or, set, drop, replicate}
 use Rattle.model.specs.declared.Kind.TheVariants.{Node0, Node2}
 use Rattle.model.specs.Fields.{variables}
-use Rattle.model.specs.Memory.{Memory, memory, word_of, cleared}
+use Rattle.model.specs.Memory.{Memory, memory, word_of}
 use Rattle.model.specs.Steps.{laid}
 use Rattle.model.specs.Moves.{loaded}
 
@@ -28,16 +24,9 @@ written-front [] room h = refl
 written-front (word ∷ words) [] h = absurd (omega arith)
 written-front (word ∷ words) (first ∷ room) h = written-later words 0 word room ∙ ap (λ (l : List ℕ). word ∷ l) (written-front words room (omega arith))
 
-pub cleared-written : (count at : ℕ) (words : List ℕ) → cleared count at words ≡ written at (replicate count 0) words
-unfolding cleared written
-cleared-written zero at words = refl
-cleared-written (suc count) at words = cleared-written count (at + 1) (set words at 0)
-
-pub cleared-all : (count : ℕ) (words : List ℕ) → length words ≡ count → cleared count 0 words ≡ replicate count 0
-cleared-all count words h =
-    let e = length-replicate {A = ℕ} count 0 in
-    cleared-written count 0 words ∙ written-front (replicate count 0) words (omega (arith, e))
-    ∙ ap (λ (l : List ℕ). replicate count 0 ++ l) (drop_of_length-le words {i = length (replicate count 0)} (omega (arith, e))) ∙ append-nil (replicate count 0)
+-- a list of so many words that is filled with 0, by what `fill` promises
+pub filled : (count : ℕ) (words after : List ℕ) → length words ≡ count → (((word : ℕ) → word ≡ 0 → word ≡ 0) → after ≡ replicate (length words) 0) → after ≡ replicate count 0
+filled count words after h e = e (λ word same. same) ∙ ap (λ (n : ℕ). replicate n 0) h
 
 -- memories are the same where their five lists are
 pub same_memory : {nodes cells trail arrays workers nodes' cells' trail' arrays' workers' : List ℕ}

@@ -1,43 +1,34 @@
 -- One turn of the climb to the common ancestor and of a leg, how many entries a leg passes, and a move of its legs. Assumes nothing.
-use mathlib.Core.Path.{◌≡◌, refl, sym, ap, ap₂, ◌∙◌, subst}
-use mathlib.Core.Bool.{Bool, true, false}
-use mathlib.Core.List.{List, ◌++◌}
-use Prim.Native.Nat.{ℕ, zero, suc, ◌+◌, ◌*◌, ◌-◌, ◌≤◌, ◌<◌}
-use native.Mathlib.Omega.{arith}
-use lib.Dec.{eqb}
-use lib.ListN.{get_or, set, take, drop}
-use borrow.Author.Tests.{eq-eqb, ne_eqb, lt-ltb, le-ltb}
+use Rattle.std.proofs.Common.{◌≡◌, refl, sym, ap, ap₂, ◌∙◌, subst, Bool, true, false, List, ◌++◌, ℕ, zero, suc, ◌+◌, ◌*◌, ◌-◌, ◌≤◌, ◌<◌, arith, eqb, get_or, set, take, drop, eq-eqb, ne_eqb, lt-ltb, le-ltb}
 use Rattle.model.specs.Memory.{memory, parent, depth, entries, cell_of, with_array}
 use Rattle.model.specs.Steps.{undone}
 use Rattle.model.specs.Moves.{meeting, common_ancestor, Leg, leg, installed, climbed, legs, moved, move}
 use Rattle.memory.proofs.FieldBounds.{entries-lt}
 
-module _ (nodes : List ℕ) where
-  pub meeting-end : (left slot other : ℕ) → left ≤ 0 → slot ≡ meeting left nodes slot other
-  unfolding meeting
-  meeting-end zero slot other h = refl
-  meeting-end (suc left) slot other h = absurd (omega arith)
+-- the climb after so many of its turns
+module _ (nodes : List ℕ) (most : ℕ) where
+  abbrev pub meeting_after : ℕ → ℕ → ℕ → ℕ
+  meeting_after turns slot other = meeting (most - turns) nodes slot other
 
-  pub meeting-met : (left slot other : ℕ) → slot ≡ other → slot ≡ meeting left nodes slot other
+  pub meeting-end : (turns slot other : ℕ) → most ≤ turns → slot ≡ meeting_after turns slot other
   unfolding meeting
-  meeting-met zero slot other e = refl
-  meeting-met (suc left) slot other e = rw (eq-eqb slot other e, meeting) refl
+  meeting-end turns slot other h = let none : most - turns ≡ 0 = omega arith in rw none refl
 
-  pub meeting-other : (left slot other : ℕ) → 0 < left → (slot ≡ other → ⊥) → depth nodes slot < depth nodes other
-      → meeting (left - 1) nodes slot (parent nodes other) ≡ meeting left nodes slot other
-  unfolding meeting
-  meeting-other zero slot other h e d = absurd (omega arith)
-  meeting-other (suc left) slot other h e d =
-      let s : suc left - 1 ≡ left = omega arith in
-      rw (s, ne_eqb slot other e, lt-ltb (depth nodes slot) (depth nodes other) d, meeting) refl
+  module _ (turns slot other : ℕ) (h : turns < most) where
+    left : most - turns ≡ suc (most - (turns + 1))
+    left = omega arith
 
-  pub meeting-slot : (left slot other : ℕ) → 0 < left → (slot ≡ other → ⊥) → depth nodes other ≤ depth nodes slot
-      → meeting (left - 1) nodes (parent nodes slot) other ≡ meeting left nodes slot other
-  unfolding meeting
-  meeting-slot zero slot other h e d = absurd (omega arith)
-  meeting-slot (suc left) slot other h e d =
-      let s : suc left - 1 ≡ left = omega arith in
-      rw (s, ne_eqb slot other e, le-ltb (depth nodes slot) (depth nodes other) d, meeting) refl
+    pub meeting-met : slot ≡ other → slot ≡ meeting_after turns slot other
+    unfolding meeting
+    meeting-met e = rw (left, eq-eqb slot other e, meeting) refl
+
+    pub meeting-other : (slot ≡ other → ⊥) → depth nodes slot < depth nodes other → meeting_after (turns + 1) slot (parent nodes other) ≡ meeting_after turns slot other
+    unfolding meeting
+    meeting-other e d = rw (left, ne_eqb slot other e, lt-ltb (depth nodes slot) (depth nodes other) d, meeting) refl
+
+    pub meeting-slot : (slot ≡ other → ⊥) → depth nodes other ≤ depth nodes slot → meeting_after (turns + 1) (parent nodes slot) other ≡ meeting_after turns slot other
+    unfolding meeting
+    meeting-slot e d = rw (left, ne_eqb slot other e, le-ltb (depth nodes slot) (depth nodes other) d, meeting) refl
 
 module _ (change : ℕ → List ℕ → ℕ → List ℕ → List ℕ) (nodes trail : List ℕ) (ancestor : ℕ) where
   climbed-passed : (left slot : ℕ) (array : List ℕ) (passed : ℕ) → (climbed change left nodes trail ancestor slot array passed).passed ≤ passed + 16 * left

@@ -1,89 +1,45 @@
 -- The search for a number, one word of an answer, and an answer's words in the room. Assumes nothing.
-use mathlib.Core.Path.{◌≡◌, refl, sym, ap, ap₂, ◌∙◌}
-use mathlib.Core.Bool.{Bool, true, false}
-use mathlib.Core.List.{List, [], ◌∷◌, ◌++◌}
-use Prim.Native.Nat.{ℕ, zero, suc, ◌+◌, ◌-◌, ◌*◌, ◌≤◌, ◌<◌}
-use native.Mathlib.Nat.{sub-zero, zero-add}
-use native.Mathlib.Numerals.{add-one}
-use native.Mathlib.Omega.{arith}
-use lib.Dec.{eqb}
-use lib.ListN.{length, get_or, set, take, drop}
-use lib.Seq.{drop-cons, take-suc-set, length-take-le}
-use borrow.Author.Tests.{eq-eqb, ne_eqb}
-use Rattle.model.specs.declared.Kind.TheVariants.{Con, Var}
-use Rattle.model.specs.declared.VarNo.{VarNo}
-use Rattle.model.specs.declared.CellAddr.{CellAddr}
-use Rattle.model.specs.declared.Found.{Found}
-use Rattle.model.specs.declared.Found.TheVariants.{Unbound, Constant}
+use Rattle.std.proofs.Common.{◌≢◌, Option, unwrap_or, ◌≡◌, refl, sym, ap, ap₂, ◌∙◌, List, [], ◌∷◌, ◌++◌, ℕ, zero, suc, ◌+◌, ◌-◌, ◌*◌, ◌≤◌, ◌<◌, add-one, arith, length, get_or, set, take, drop, take-suc-set, eq-eqb, ne_eqb}
+use Rattle.std.proofs.lemmas.Iterator.{index_from_first}
+use Rattle.std.specs.Option.{MatchOption}
+use Rattle.std.specs.List.{AllWithin, HoldsAt}
 use Rattle.model.specs.Fields.{variables}
-use Rattle.model.specs.Memory.{memory, word_of, cell_of, array_of}
+use Rattle.model.specs.Memory.{memory, cell_of, array_of}
 use Rattle.model.specs.Terms.{dereference}
 use Rattle.model.specs.Moves.{place_of, with_number, answer_word, seen_with_found, answer_from, answer}
 use Rattle.moves.proofs.LoadLaws.{written, written-front}
 
--- a place further on in the list, and where the number is looked for from there
-abbrev pub place_from : ℕ → List ℕ → ℕ → ℕ → ℕ
-place_from count seen number at = at + place_of (take (count - at) (drop at seen)) number
+-- where a number is among those seen, by what a search through them found
+module _ (number : ℕ) where
+  abbrev pub same : ℕ → Type 0
+  same known = known ≡ number
 
-module _ (count : ℕ) (seen : List ℕ) (number : ℕ) where
-  pub place-word : (at : ℕ) → at < count → at < length seen → take (count - at) (drop at seen) ≡ get_or seen at 0 ∷ take (count - (at + 1)) (drop (at + 1) seen)
-  place-word at h l =
-      let s : count - at ≡ suc (count - (at + 1)) = omega arith in
-      ap₂ (λ (n : ℕ) (xs : List ℕ). take n xs) s (drop-cons seen at 0 l) ∙ ap (λ (n : ℕ). get_or seen at 0 ∷ take (count - (at + 1)) (drop n seen)) (sym (add-one at))
+  abbrev pub other : ℕ → Type 0
+  other known = known ≢ number
 
-  pub place_here : (at : ℕ) → at < count → at < length seen → get_or seen at 0 ≡ number → at ≡ place_from count seen number at
+  place-hit : (known : ℕ) (seen : List ℕ) → known ≡ number → place_of (known ∷ seen) number ≡ 0
   unfolding place_of
-  place_here at h l e = rw (place-word at h l, eq-eqb (get_or seen at 0) number e, place_of) (omega arith)
+  place-hit known seen e = rw (eq-eqb known number e, place_of) refl
 
-  pub place-later : (at : ℕ) → at < count → at < length seen → (get_or seen at 0 ≡ number → ⊥) → place_from count seen number (at + 1) ≡ place_from count seen number at
+  place-miss : (known : ℕ) (seen : List ℕ) → known ≢ number → place_of (known ∷ seen) number ≡ place_of seen number + 1
   unfolding place_of
-  place-later at h l e = rw (place-word at h l, ne_eqb (get_or seen at 0) number e, place_of) (omega arith)
+  place-miss known seen e = rw (ne_eqb known number e, place_of) (omega arith)
 
-  pub place-start : place_from count seen number 0 ≡ place_of (take count seen) number
-  place-start = rw (sub-zero count, zero-add (place_of (take count seen) number)) refl
-
-  pub place_end : (at : ℕ) → count ≤ at → at ≡ place_from count seen number at
+  pub place-found : (seen : List ℕ) (found : Option ℕ)
+      → MatchOption found (AllWithin other seen 0 (length seen)) (λ place. (place < length seen) × HoldsAt same seen place × AllWithin other seen 0 place)
+      → place_of seen number ≡ unwrap_or found (length seen)
   unfolding place_of
-  place_end at h = let s : count - at ≡ 0 = omega arith in rw (s, place_of) (omega arith)
+  place-found = index_from_first (λ (seen : List ℕ). place_of seen number) same other refl place-hit place-miss
 
-pub place-le : (seen : List ℕ) (number : ℕ) → place_of seen number ≤ length seen
-unfolding place_of
-place-le [] number = omega arith
-place-le (first ∷ seen) number = go (eqb first number) refl (place-le seen number)
-  where
-    go : (t : Bool) → eqb first number ≡ t → place_of seen number ≤ length seen → place_of (first ∷ seen) number ≤ suc (length seen)
-    go true q h = rw (q, place_of) (omega arith)
-    go false q h = rw (q, place_of) (omega arith)
+  -- a number seen before adds none, a new one comes behind the others
+  pub seen-before : (seen : List ℕ) → place_of seen number < length seen → seen ≡ with_number seen number
+  unfolding with_number
+  seen-before seen h = simp (ne_eqb (place_of seen number) (length seen) (omega (arith, h))) refl
 
--- one word of an answer, by what its variable was found to be, and the numbers seen then
-module _ (found : Found) (constant : ℕ) (e : found ≡ Constant constant) where
-  pub constant-word : (seen : List ℕ) (word : ℕ) → word ≡ word_of Con (2 ∷ constant ∷ []) → word ≡ answer_word seen found
-  unfolding answer_word
-  constant-word seen word h = rw e h
-
-  pub constant-seen : (seen : List ℕ) → seen ≡ seen_with_found seen found
-  unfolding seen_with_found
-  constant-seen seen = rw e refl
-
-module _ (found : Found) (number : VarNo) (address : CellAddr) (e : found ≡ Unbound number address) where
-  pub variable-word : (seen : List ℕ) (place word : ℕ) → place ≡ place_of seen number.0 → word ≡ word_of Var (1 ∷ 0 ∷ place ∷ []) → word ≡ answer_word seen found
-  unfolding answer_word
-  variable-word seen place word p h = rw e (h ∙ ap (λ (n : ℕ). word_of Var (1 ∷ 0 ∷ n ∷ [])) p)
-
-  module _ (seen : List ℕ) (count place : ℕ) (l : count < length seen) (p : place ≡ place_of (take count seen) number.0) where
-    count-seen : length (take count seen) ≡ count
-    count-seen = length-take-le count seen (omega arith)
-
-    pub old-seen : place < count → take count seen ≡ seen_with_found (take count seen) found
-    unfolding seen_with_found with_number
-    old-seen h = rw e (simp (ne_eqb (place_of (take count seen) number.0) (length (take count seen)) (omega (arith, p, count-seen))) refl)
-
-    pub new-seen : (after : List ℕ) → count ≤ place → after ≡ set seen count number.0 → take (count + 1) after ≡ seen_with_found (take count seen) found
-    unfolding seen_with_found with_number
-    new-seen after h s =
-        rw e
-        (simp (eq-eqb (place_of (take count seen) number.0) (length (take count seen)) (omega (arith, p, count-seen, place-le (take count seen) number.0)))
-        (ap₂ (λ (n : ℕ) (xs : List ℕ). take n xs) (add-one count) s ∙ take-suc-set seen count number.0 l))
+  pub seen-new : (numbers : List ℕ) (count : ℕ) → count < length numbers → place_of (take count numbers) number ≡ length (take count numbers)
+      → take (count + 1) (set numbers count number) ≡ with_number (take count numbers) number
+  unfolding with_number
+  seen-new numbers count h e = simp (eq-eqb (place_of (take count numbers) number) (length (take count numbers)) e) (ap (λ (n : ℕ). take n (set numbers count number)) (add-one count) ∙ take-suc-set numbers count number h)
 
 module _ (array cells : List ℕ) where
   pub answer-length : (left variable : ℕ) (seen : List ℕ) → length (answer_from left array cells variable seen) ≡ left
@@ -105,9 +61,6 @@ module _ (array cells : List ℕ) where
       let s : count - variable ≡ suc (count - (variable + 1)) = omega arith in
       let z : cell_of 0 variable ≡ variable = omega arith in
       rw (s, er, es, z) refl
-
-  pub answered-start : (count : ℕ) (room : List ℕ) → answered (count - 0) 0 [] room ≡ answered count 0 [] room
-  answered-start count room = ap (λ (n : ℕ). answered n 0 [] room) (sub-zero count)
 
   pub answered-end : (left variable : ℕ) (seen room : List ℕ) → left ≤ 0 → room ≡ answered left variable seen room
   unfolding answer_from written

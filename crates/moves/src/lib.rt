@@ -7,7 +7,7 @@ ghost use Rattle.model.specs.declared.Kind.TheVariants.{Var, Con};
 ghost use Rattle.model.specs.Fields.{variables};
 ghost use Rattle.model.specs.Memory.{memory, word_of, cell_of, array_of};
 ghost use Rattle.model.specs.Terms.{dereference};
-ghost use Rattle.model.specs.Moves.{loaded, common_ancestor, leg, legs, moved, move, place_of, answer_word, seen_with_found, answer_from, answer};
+ghost use Rattle.model.specs.Moves.{loaded, common_ancestor, leg, legs, moved, move, place_of, with_number, answer_word, seen_with_found, answer_from, answer};
 
 use memory::{PutIn, TakeOut};
 use model::{CellAddr, Found, Kind};
@@ -18,8 +18,8 @@ pub fn common_ancestor(nodes: &[u32], slot: u32, other: u32) -> u32
 {
     let mut here = slot;
     let mut there = other;
-    let mut left = memory::depth(nodes, slot) + memory::depth(nodes, other);
-    while 0 < left {
+    let most = memory::depth(nodes, slot) + memory::depth(nodes, other);
+    for _ in 0..most {
         if here == there {
             return here;
         }
@@ -28,7 +28,6 @@ pub fn common_ancestor(nodes: &[u32], slot: u32, other: u32) -> u32
         } else {
             here = memory::parent(nodes, here);
         }
-        left -= 1;
     }
     here
 }
@@ -75,11 +74,11 @@ fn wipe(
     requires { (length nodes.old ≡ 256) × (length cells.old ≡ 2048) × (length trail.old ≡ 2048) × (length arrays.old ≡ 8192) × (length workers.old ≡ 4) }
     ensures { memory nodes.new cells.new trail.new arrays.new workers.new ≡ memory (replicate 256 0) (replicate 2048 0) (replicate 2048 0) (replicate 8192 0) (replicate 4 0) }
 {
-    memory::clear(nodes, 0, 256);
-    memory::clear(cells, 0, 2048);
-    memory::clear(trail, 0, 2048);
-    memory::clear(arrays, 0, 8192);
-    memory::clear(workers, 0, 4);
+    nodes.fill(0);
+    cells.fill(0);
+    trail.fill(0);
+    arrays.fill(0);
+    workers.fill(0);
 }
 
 // The memory afresh: the query's variables and its first goal at the root, all workers there.
@@ -101,21 +100,6 @@ pub fn load(
     memory::lay(cells, 0, 0, variables);
 }
 
-// The place of a number among the first `count` that were seen, `count` where it is not there.
-fn place_of(seen: &[u32], count: u32, number: u32) -> u32
-    requires { count ≤ length seen.now }
-    ensures { result ≡ place_of (take count seen.now) number }
-{
-    let mut at: u32 = 0;
-    while at < count {
-        if words::word_at(seen, at as usize) == number {
-            return at;
-        }
-        at += 1;
-    }
-    at
-}
-
 fn con_word(constant: u32) -> u32
     ensures { result ≡ word_of Con (2 ∷ constant ∷ []) }
 {
@@ -128,32 +112,43 @@ fn var_word(number: u32) -> u32
     words::placed(1, Kind::Var, 0) + words::placed(number, Kind::Var, 2)
 }
 
-// One word of the answer, for a query variable. The first `count` words of `seen` are the numbers seen before; answers how many are seen then.
-fn read_word(
-    array: &[u32],
-    cells: &[u32],
-    seen: &mut [u32],
-    count: u32,
-    variable: u32,
-    room: &mut [u32],
-) -> u32
-    requires { (length seen.old ≡ 64) × (count < 64) }
-    ensures { (room.new ≡ set room.old variable (answer_word (take count seen.old) (dereference 2048 array.now cells.now variable))) × (take result seen.new ≡ seen_with_found (take count seen.old) (dereference 2048 array.now cells.now variable)) × (result ≤ count + 1) }
+// The numbers that an answer has named so far: as many as `count` says, at the front.
+#[derive(Clone, Copy)]
+struct Seen {
+    numbers: [u32; 64],
+    count: usize,
+}
+
+impl Seen {
+    // The place of a number among them. One that was not seen before is added behind them.
+    fn place(&mut self, number: u32) -> u32
+        requires { self.old.count < 64 }
+        ensures place { result ≡ place_of (take self.old.count self.old.numbers) number }
+        ensures seen { take self.new.count self.new.numbers ≡ with_number (take self.old.count self.old.numbers) number }
+        ensures count { self.new.count ≤ self.old.count + 1 }
+    {
+        let seen = &self.numbers[..self.count];
+        if let Some(place) = seen.iter().position(|known| *known == number) {
+            return place as u32;
+        }
+        let place = self.count;
+        self.numbers[place] = number;
+        self.count = place + 1;
+        place as u32
+    }
+}
+
+// One word of the answer, for a query variable.
+#[tactic(auto, unfolding(model::specs::Moves::answer_word, model::specs::Moves::seen_with_found))]
+fn read_word(array: &[u32], cells: &[u32], seen: &mut Seen, variable: u32) -> u32
+    requires { seen.old.count < 64 }
+    ensures word { result ≡ answer_word (take seen.old.count seen.old.numbers) (dereference 2048 array.now cells.now variable) }
+    ensures seen { take seen.new.count seen.new.numbers ≡ seen_with_found (take seen.old.count seen.old.numbers) (dereference 2048 array.now cells.now variable) }
+    ensures count { seen.new.count ≤ seen.old.count + 1 }
 {
     match terms::dereference(array, cells, CellAddr(variable)) {
-        Found::Constant(constant) => {
-            words::put(room, variable as usize, con_word(constant));
-            count
-        }
-        Found::Unbound(number, _) => {
-            let place = place_of(seen, count, number.0);
-            words::put(room, variable as usize, var_word(place));
-            if place < count {
-                return count;
-            }
-            words::put(seen, count as usize, number.0);
-            count + 1
-        }
+        Found::Constant(constant) => con_word(constant),
+        Found::Unbound(number, _) => var_word(seen.place(number.0)),
     }
 }
 
@@ -162,12 +157,13 @@ fn read_words(array: &[u32], cells: &[u32], variables: u32, room: &mut [u32])
     requires { (variables < 64) × (variables ≤ length room.old) }
     ensures { room.new ≡ answer_from variables array.now cells.now 0 [] ++ drop variables room.old }
 {
-    let mut seen = [0u32; 64];
-    let mut count: u32 = 0;
-    let mut variable: u32 = 0;
-    while variable < variables {
-        count = read_word(array, cells, &mut seen, count, variable, room);
-        variable += 1;
+    let mut seen = Seen {
+        numbers: [0; 64],
+        count: 0,
+    };
+    for variable in 0..variables {
+        let word = read_word(array, cells, &mut seen, variable);
+        words::put(room, variable as usize, word);
     }
 }
 

@@ -1,15 +1,6 @@
 -- What binding an unbound variable to a constant does to dereferencing: it finds the same, or a constant where it found nothing bound. Document 01, "Shared memory", on values. Assumes nothing.
-use mathlib.Core.Path.{◌≡◌, refl, sym, ap, subst, ◌∙◌}
-use mathlib.Core.Logic.{◌⊎◌, inl, inr}
-use mathlib.Core.Bool.{Bool, true, false, cond}
-use mathlib.Core.List.{List, [], ◌∷◌}
-use Prim.Native.Nat.{ℕ, zero, suc, ◌%◌, ◌^◌}
-use native.Mathlib.Nat.{mod-lt}
-use native.Mathlib.Omega.{arith}
-use lib.Dec.{eqb}
-use lib.ListN.{get_or, set}
-use lib.Pow.{pow_pos}
-use borrow.Author.Tests.{eqb-true, eqb-false, ne_eqb}
+use Rattle.std.proofs.Common.{◌≡◌, refl, sym, ap, subst, ◌∙◌, ◌⊎◌, inl, inr, Bool, true, false, cond, List, [], ◌∷◌, ℕ, zero, suc, ◌%◌, ◌^◌, mod-lt, arith, eqb, get_or, set, pow_pos, eqb-true, ne_eqb}
+use borrow.Author.Tests.{eqb-false}
 use Rattle.model.specs.declared.Kind.TheVariants.{Value}
 use Rattle.model.specs.declared.VarNo.{VarNo}
 use Rattle.model.specs.declared.CellAddr.{CellAddr}

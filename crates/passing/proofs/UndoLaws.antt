@@ -1,11 +1,7 @@
 -- A trail entry written where the trail was 0, for a number that was 0 in the array, is taken out and cleared again, after whatever came later has been.
 -- Document 01, rule 7, "Failure". Assumes nothing.
-use mathlib.Core.Path.{◌≡◌, refl, sym, ap, ◌∙◌}
-use mathlib.Core.List.{List, [], ◌∷◌}
-use Prim.Native.Nat.{ℕ, zero, suc, ◌+◌, ◌*◌, ◌≤◌, ◌<◌}
-use native.Mathlib.Omega.{arith}
-use lib.ListN.{length, get_or, set, length-set}
-use lib.Seq.{get_or-set_same, get_or-set_other, set-get_or, set-set}
+use Rattle.std.proofs.Common.{◌≡◌, refl, sym, ap, ◌∙◌, List, [], ◌∷◌, ℕ, zero, suc, ◌+◌, ◌*◌, ◌≤◌, ◌<◌, arith, length, get_or, set, length-set, get_or-set_same, get_or-set_other, set-set}
+use Rattle.std.proofs.Math.Seq.{set-get_or}
 use Rattle.model.specs.Memory.{number_at, value_at, cleared}
 use Rattle.model.specs.Steps.{undone}
 

@@ -26,6 +26,7 @@ pub struct Stretch {
     pub position: u32,
 }
 
+#[tactic(auto, unfolding(crate::specs::Clash::compare, crate::specs::Clash::compared_with))]
 fn compare(
     array: &[u32],
     cells: &[u32],
@@ -41,18 +42,10 @@ fn compare(
         return Compared::Unsure;
     }
     match terms::argument_of(array, cells, slot, goal) {
-        Found::Constant(b) => {
-            if words::constant(head) == b {
-                return Compared::Agree;
-            }
-            Compared::Differ
-        }
-        Found::Unbound(number, _) => {
-            if number.0 < child_base {
-                return Compared::Agree;
-            }
-            Compared::Unsure
-        }
+        Found::Constant(theirs) if words::constant(head) == theirs => Compared::Agree,
+        Found::Constant(_) => Compared::Differ,
+        Found::Unbound(number, _) if number.0 < child_base => Compared::Agree,
+        Found::Unbound(_, _) => Compared::Unsure,
     }
 }
 
@@ -71,27 +64,20 @@ fn clashes(
     requires { (slot < 65536) × (head < 1099511627776) × (goal < 1099511627776) × (arity < 65536) }
     ensures { result ≡ clashes arity image.now words.now array.now cells.now slot child_base head goal }
 {
-    let mut k: usize = 0;
-    let mut left = arity;
-    while 0 < left {
+    for k in 0..arity as usize {
         let ours = words::word_at(image, head + k);
         let theirs = words::word_at(words, goal + k);
         match compare(array, cells, child_base, slot, ours, theirs) {
-            Compared::Differ => {
-                return true;
-            }
+            Compared::Differ => return true,
             Compared::Agree => {}
-            Compared::Unsure => {
-                return false;
-            }
+            Compared::Unsure => return false,
         }
-        k += 1;
-        left -= 1;
     }
     false
 }
 
 // Whether the clause at a position is sure to fail.
+#[tactic(auto, unfolding(crate::specs::Clash::fails_plainly))]
 fn fails_plainly(
     image: &[u32],
     words: &[u32],
@@ -107,20 +93,18 @@ fn fails_plainly(
     ensures { result ≡ fails_plainly arity image.now words.now array.now cells.now slot child_base position place }
 {
     let at = position as usize;
-    if words::variables(words::word_at(image, at)) != 0 {
-        return false;
-    }
-    clashes(
-        image,
-        words,
-        array,
-        cells,
-        slot,
-        child_base,
-        at + 1,
-        place + 1,
-        arity,
-    )
+    words::variables(words::word_at(image, at)) == 0
+        && clashes(
+            image,
+            words,
+            array,
+            cells,
+            slot,
+            child_base,
+            at + 1,
+            place + 1,
+            arity,
+        )
 }
 
 // At most so many clauses from a position on, as long as each is sure to fail; for each the node's tried count rises. Answers how many, and the place behind them.
@@ -142,49 +126,32 @@ fn pass_over(
     ensures { (passing nodes.new result.count ≡ pass_over arity node image.now words.now array.now cells.now slot child_base place most 0 nodes.old start) × (result.position ≡ clause_from image.now start result.count) }
 {
     let mut position = start;
-    let mut left = most;
-    let mut count: u32 = 0;
-    while 0 < left {
+    for count in 0..most {
         if !fails_plainly(
             image, words, array, cells, slot, child_base, position, place, arity,
         ) {
-            return Stretch {
-                count: count,
-                position: position,
-            };
+            return Stretch { count, position };
         }
         memory::raise(nodes, node);
         position += words::clause_length(words::word_at(image, position as usize));
-        count += 1;
-        left -= 1;
     }
     Stretch {
-        count: count,
-        position: position,
+        count: most,
+        position,
     }
-}
-
-fn least(a: u32, b: u32) -> u32
-    ensures { result ≡ min a b }
-{
-    if a < b {
-        return a;
-    }
-    b
 }
 
 // Whether so many words from a place on stand in the slice, and are 0.
+#[tactic(auto, unfolding(crate::specs::Passing::blank))]
 fn blank(words: &[u32], start: usize, count: u32) -> bool
     requires { start < 1099511627776 }
     ensures { result ≡ blank count words.now start }
 {
-    if words.len() < start + count as usize {
-        return false;
-    }
-    bindings::zeros(words, start, count)
+    start + count as usize <= words.len() && bindings::zeros(words, start, count)
 }
 
 // Passes over clauses of a live node's predicate from a position on, at most so many, if the next is sure to fail and the child's trail is still empty. Answers how many, and the place behind them.
+#[tactic(auto, unfolding(crate::specs::Passing::skipped, model::specs::Decoding::clause_from))]
 pub fn skip<'a>(
     image: &'a [u32],
     query: &'a [u32],
@@ -202,11 +169,9 @@ pub fn skip<'a>(
     requires { (place < 1048576) × (position < 134217728) × (tried nodes.old node ≤ clause_count (predicate_word image.now predicate)) }
     ensures { (passing nodes.new result.count ≡ skipped image.now query.now nodes.old cells.now trail.now array.now node child predicate place position most) × (result.position ≡ clause_from image.now position result.count) }
 {
+    let none = Stretch { count: 0, position };
     if most == 0 {
-        return Stretch {
-            count: 0,
-            position: position,
-        };
+        return none;
     }
     let slot = memory::frame(nodes, node);
     let words = goals::clause_words(image, query, nodes, slot);
@@ -215,17 +180,9 @@ pub fn skip<'a>(
     let arity = words::arity(word);
     if !fails_plainly(
         image, words, array, cells, slot, child_base, position, place, arity,
-    ) {
-        return Stretch {
-            count: 0,
-            position: position,
-        };
-    }
-    if !blank(trail, 32 * child as usize, 2 * arity) {
-        return Stretch {
-            count: 0,
-            position: position,
-        };
+    ) || !blank(trail, 32 * child as usize, 2 * arity)
+    {
+        return none;
     }
     let untried = words::clause_count(word) - memory::tried(nodes, node);
     pass_over(
@@ -240,6 +197,6 @@ pub fn skip<'a>(
         place,
         arity,
         node,
-        least(most, untried),
+        most.min(untried),
     )
 }

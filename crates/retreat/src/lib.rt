@@ -37,6 +37,7 @@ fn free(nodes: &mut [u32], cells: &mut [u32], trail: &mut [u32], slot: u32)
 }
 
 // Rules 1 to 4, at a dead node, of which it is known whether it has a child.
+#[tactic(auto, unfolding(model::specs::Steps::dead_rule, model::specs::Steps::left_for, model::specs::Steps::freed))]
 pub fn dead_step(
     nodes: &mut [u32],
     cells: &mut [u32],
@@ -55,11 +56,11 @@ pub fn dead_step(
     if node == 0 {
         return Outcome::Finished;
     }
-    if memory::another_there(workers, worker, node) {
-        leave(nodes, trail, array, workers, worker, node);
+    let another = memory::another_there(workers, worker, node);
+    leave(nodes, trail, array, workers, worker, node);
+    if another {
         return Outcome::Left;
     }
-    leave(nodes, trail, array, workers, worker, node);
     free(nodes, cells, trail, node);
     Outcome::Back
 }

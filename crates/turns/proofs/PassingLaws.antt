@@ -1,13 +1,6 @@
 -- Each clause that is passed over is a step that says Tried and changes the tried count alone; so many of them are so many steps of a run. Document 01, rule 7. Assumes nothing.
-use mathlib.Core.Path.{◌≡◌, refl, sym, ap, ap₂, subst, ◌∙◌}
-use mathlib.Core.Bool.{Bool, true, false, cond, ◌&&◌}
-use mathlib.Core.List.{List}
-use Prim.Native.Nat.{ℕ, zero, suc, ◌+◌, ◌*◌, ◌≤◌, ◌<◌}
-use native.Mathlib.Omega.{arith}
-use native.Mathlib.Nat.{add-zero}
-use lib.Dec.{eqb, leb}
-use lib.ListN.{length, get_or}
-use borrow.Author.Tests.{lt-leb, eqb-true}
+use Rattle.std.proofs.Common.{◌≡◌, refl, sym, ap, ap₂, subst, ◌∙◌, Bool, true, false, cond, ◌&&◌, List, ℕ, zero, suc, ◌+◌, ◌*◌, ◌≤◌, ◌<◌, arith, add-zero, eqb, leb, length, get_or, eqb-true}
+use borrow.Author.Tests.{lt-leb}
 use Rattle.model.specs.declared.Outcome.TheVariants.{Tried}
 use Rattle.model.specs.declared.Unified.TheVariants.{No}
 use Rattle.model.specs.Fields.{arity, sequential, clause_count, first_clause, variables, clause_length}

@@ -1,13 +1,5 @@
 -- What is found of a live node, and what one turn of a run then does there: clauses passed over, Wait or Full. Document 01, rules 5 to 7. Assumes nothing.
-use mathlib.Core.Path.{◌≡◌, refl, sym, ap, subst, ◌∙◌}
-use mathlib.Core.Bool.{Bool, true, false, cond, ◌&&◌}
-use mathlib.Core.List.{List}
-use Prim.Native.Nat.{ℕ, ◌+◌, ◌-◌, ◌*◌, ◌≤◌, ◌<◌, min}
-use native.Mathlib.Omega.{arith}
-use native.Mathlib.Nat.{zero-add}
-use lib.Dec.{eqb, leb}
-use lib.ListN.{length, get_or}
-use borrow.Author.Tests.{eqb-true, leb-true, le-leb}
+use Rattle.std.proofs.Common.{◌≡◌, refl, sym, ap, subst, ◌∙◌, Bool, true, false, cond, ◌&&◌, List, ℕ, ◌+◌, ◌-◌, ◌*◌, ◌≤◌, ◌<◌, min, arith, zero-add, eqb, leb, length, get_or, eqb-true, leb-true, le-leb}
 use Rattle.model.specs.declared.Outcome.TheVariants.{Wait, Full}
 use Rattle.model.specs.Fields.{arity, sequential, clause_count}
 use Rattle.model.specs.Image.{predicate_word}

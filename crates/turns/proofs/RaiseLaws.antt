@@ -1,14 +1,5 @@
 -- What a raised tried count leaves as it was: every other field, and all that is found by them. Document 01, rule 7, "Failure: Tried; only that count has changed". Assumes nothing.
-use mathlib.Core.Path.{◌≡◌, refl, ap, ap₂, ◌∙◌}
-use mathlib.Core.Bool.{Bool, true, false, cond, ◌&&◌}
-use mathlib.Core.List.{List, [], ◌∷◌}
-use Prim.Native.Nat.{ℕ, zero, suc, ◌+◌, ◌*◌, ◌<◌}
-use native.Mathlib.Omega.{arith}
-use native.Mathlib.Nat.{mod-lt, mod-eq_of_lt}
-use lib.Dec.{eqb}
-use lib.ListN.{length, get_or}
-use lib.Seq.{get_or-set_same, get_or-set_other}
-use lib.Pow.{pow_pos}
+use Rattle.std.proofs.Common.{◌≡◌, refl, ap, ap₂, ◌∙◌, Bool, true, false, cond, ◌&&◌, List, [], ◌∷◌, ℕ, zero, suc, ◌+◌, ◌*◌, ◌<◌, arith, mod-lt, mod-eq_of_lt, eqb, length, get_or, get_or-set_same, get_or-set_other, pow_pos}
 use Rattle.model.specs.declared.Kind.TheVariants.{Node0, Node1, Node2}
 use Rattle.model.specs.Fields.{widths_of, field, below, total, goal_predicate}
 use Rattle.model.specs.Memory.{node_word, used, parent, base, own_variables, clause_position, has_goal, frame, goal_index, tried, word_of, cut_to}

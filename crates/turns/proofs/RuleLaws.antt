@@ -1,8 +1,5 @@
 -- Rules 5 to 7 by the tests that lead to each. Document 01, "The steps". Assumes nothing.
-use mathlib.Core.Path.{◌≡◌, refl}
-use mathlib.Core.Bool.{Bool, true, false}
-use mathlib.Core.List.{List}
-use Prim.Native.Nat.{ℕ}
+use Rattle.std.proofs.Common.{◌≡◌, refl, Bool, true, false, List, ℕ}
 use Rattle.model.specs.declared.Outcome.TheVariants.{Wait, Full}
 use Rattle.model.specs.Steps.{View, stepped, lowest_free, take_clause, live_rule}
 

@@ -1,37 +1,15 @@
 -- A step from the rule that its node takes. Document 01, "A step by worker w at node N, first rule that fits". Assumes nothing.
-use mathlib.Core.Path.{◌≡◌, refl, sym, ap, ◌∙◌}
-use mathlib.Core.Bool.{Bool, true, false, cond, ◌&&◌}
-use mathlib.Core.List.{List}
-use Prim.Native.Nat.{ℕ, ◌≤◌, ◌<◌}
-use native.Mathlib.Omega.{arith}
-use lib.Dec.{eqb, ltb, leb}
-use lib.ListN.{get_or}
-use borrow.Author.Tests.{eq-eqb, ne_eqb, lt-ltb, le-ltb, eqb-true, ltb-true}
+use Rattle.std.proofs.Common.{◌≡◌, ◌∙◌, sym, ap, refl, Bool, true, false, cond, ◌&&◌, List, ℕ, ◌<◌, Option, Some, None, eqb, ltb, leb, get_or, arith, eq-eqb, lt-ltb, eqb-true, ltb-true}
 use Rattle.model.specs.Fields.{sequential, clause_count}
 use Rattle.model.specs.Memory.{has_goal, tried}
 use Rattle.model.specs.Image.{predicate_word}
 use Rattle.model.specs.Steps.{View, goal_of, predicate_of, live, has_child, another_there, lowest_free, dead_rule, live_rule, node_rule, step}
-use Rattle.turns.specs.declared.live.LiveGoal.TheVariants.{Dead, Live}
 use Rattle.turns.specs.Live.{live_goal}
 
 module _ (image query nodes : List ℕ) (node : ℕ) where
-  pub live_goal-none : (has_goal nodes node ≡ 1 → ⊥) → Dead ≡ live_goal image query nodes node
-  unfolding live_goal live
-  live_goal-none none = simp (ne_eqb (has_goal nodes node) 1 none)
-
-  module _ (goal : has_goal nodes node ≡ 1) where
-    pub live-untried : tried nodes node < clause_count (predicate_word image (predicate_of image query nodes node)) → live image query nodes node ≡ true
-    unfolding live
-    live-untried h = simp (eq-eqb (has_goal nodes node) 1 goal, lt-ltb (tried nodes node) (clause_count (predicate_word image (predicate_of image query nodes node))) h)
-
-    pub live_goal-tried : clause_count (predicate_word image (predicate_of image query nodes node)) ≤ tried nodes node → Dead ≡ live_goal image query nodes node
-    unfolding live_goal live
-    live_goal-tried h = simp (eq-eqb (has_goal nodes node) 1 goal, le-ltb (tried nodes node) (clause_count (predicate_word image (predicate_of image query nodes node))) h)
-
-    pub live_goal-untried : tried nodes node < clause_count (predicate_word image (predicate_of image query nodes node))
-        → Live (predicate_of image query nodes node) (goal_of image query nodes node) ≡ live_goal image query nodes node
-    unfolding live_goal
-    live_goal-untried h = simp (live-untried h)
+  pub live-untried : has_goal nodes node ≡ 1 → tried nodes node < clause_count (predicate_word image (predicate_of image query nodes node)) → live image query nodes node ≡ true
+  unfolding live
+  live-untried goal h = simp (eq-eqb (has_goal nodes node) 1 goal, lt-ltb (tried nodes node) (clause_count (predicate_word image (predicate_of image query nodes node))) h)
 
   -- a live node has a goal with clauses untried
   pub live-holds : live image query nodes node ≡ true → (has_goal nodes node ≡ 1) × (tried nodes node < clause_count (predicate_word image (predicate_of image query nodes node)))
@@ -45,23 +23,25 @@ module _ (image query nodes : List ℕ) (node : ℕ) where
       go true q r = (eqb-true (has_goal nodes node) 1 q, ltb-true (tried nodes node) (clause_count (predicate_word image (predicate_of image query nodes node))) r)
       go false q r = let z : ◌≡◌ {A = ℕ} 0 1 = cc in absurd (omega arith)
 
-  pub live_goal-dead : Dead ≡ live_goal image query nodes node → live image query nodes node ≡ false
+  pub live_goal-dead : live_goal image query nodes node ≡ None → live image query nodes node ≡ false
   unfolding live_goal
   live_goal-dead e = go (live image query nodes node) refl e
     where
-      go : (b : Bool) → live image query nodes node ≡ b → Dead ≡ cond b (Live (predicate_of image query nodes node) (goal_of image query nodes node)) Dead → live image query nodes node ≡ false
-      go true q r = let z : ◌≡◌ {A = ℕ} 0 1 = cc in absurd (omega arith)
+      go : (b : Bool) → live image query nodes node ≡ b → cond {A = Option (ℕ × ℕ)} b (Some (predicate_of image query nodes node, goal_of image query nodes node)) None ≡ None → live image query nodes node ≡ false
+      go true q r = cc
       go false q r = q
 
-  pub live_goal-live : (predicate place : ℕ) → Live predicate place ≡ live_goal image query nodes node
+  pub live_goal-live : (predicate place : ℕ) → live_goal image query nodes node ≡ Some (predicate, place)
       → (live image query nodes node ≡ true) × (predicate ≡ predicate_of image query nodes node) × (place ≡ goal_of image query nodes node)
   unfolding live_goal
   live_goal-live predicate place e = go (live image query nodes node) refl e
     where
-      go : (b : Bool) → live image query nodes node ≡ b → Live predicate place ≡ cond b (Live (predicate_of image query nodes node) (goal_of image query nodes node)) Dead
+      go : (b : Bool) → live image query nodes node ≡ b → cond {A = Option (ℕ × ℕ)} b (Some (predicate_of image query nodes node, goal_of image query nodes node)) None ≡ Some (predicate, place)
           → (live image query nodes node ≡ true) × (predicate ≡ predicate_of image query nodes node) × (place ≡ goal_of image query nodes node)
-      go true q r = (q, cc, cc)
-      go false q r = let z : ◌≡◌ {A = ℕ} 0 1 = cc in absurd (omega arith)
+      go true q r =
+          let e : ◌≡◌ {A = ℕ × ℕ} (predicate, place) (predicate_of image query nodes node, goal_of image query nodes node) = cc in
+          (q, ap (λ (p : ℕ × ℕ). p.0) e, ap (λ (p : ℕ × ℕ). p.1) e)
+      go false q r = (cc, cc, cc)
 
 module _ (image query : List ℕ) (v : View) (worker node : ℕ) (is : node ≡ get_or v.workers worker 0) where
   pub step-dead : live image query v.nodes node ≡ false

@@ -12,7 +12,7 @@ ghost use Rattle.turns.specs.Progress.{Progressed};
 ghost use Rattle.model.specs.Steps.{view};
 
 use dead::dead_advance;
-use live::{LiveGoal, live_advance, live_goal};
+use live::{live_advance, live_goal};
 use model::Outcome;
 
 // How far a run came: so many clauses passed over, each a step that says Tried, or one step.
@@ -42,13 +42,12 @@ pub fn advance<'a>(
     ensures { (Progressed result most image.now query.now worker (view nodes.old cells.old trail.old array.old workers.old) (view nodes.new cells.new trail.new array.new workers.new)) × AtHand image.now query.now nodes.new places.new clauses.new children.new }
 {
     let node = words::word_at(workers, worker as usize);
-    match live_goal(image, query, nodes, places, node) {
-        LiveGoal::Dead => Progress::Did(dead_advance(
-            nodes, cells, trail, array, workers, children, worker, node,
-        )),
-        LiveGoal::Live(predicate, place) => live_advance(
-            image, query, nodes, cells, trail, array, workers, clauses, children, worker, node,
-            predicate, place, look, most,
-        ),
-    }
+    let Some((predicate, place)) = live_goal(image, query, nodes, places, node) else {
+        let outcome = dead_advance(nodes, cells, trail, array, workers, children, worker, node);
+        return Progress::Did(outcome);
+    };
+    live_advance(
+        image, query, nodes, cells, trail, array, workers, clauses, children, worker, node,
+        predicate, place, look, most,
+    )
 }

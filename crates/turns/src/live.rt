@@ -11,36 +11,29 @@ use crate::Progress;
 use crate::taking::take_next;
 use model::Outcome;
 
-const SLOTS: u32 = 64;
-
-// Whether a node is live, and then the predicate that its first goal calls and the goal's place.
-#[derive(Clone, Copy)]
-pub enum LiveGoal {
-    Dead,
-    Live(u32, usize),
-}
-
+// Where a node is live: the predicate that its first goal calls, and the goal's place.
+#[tactic(auto, unfolding(crate::specs::Live::live_goal, model::specs::Steps::live))]
 pub fn live_goal<'a>(
     image: &'a [u32],
     query: &'a [u32],
     nodes: &[u32],
     places: &mut [u32],
     node: u32,
-) -> LiveGoal
+) -> Option<(u32, usize)>
     requires { GoalsKept image.now query.now places.old }
     ensures { (result ≡ live_goal image.now query.now nodes.now node) × GoalsKept image.now query.now places.new }
 {
     if memory::has_goal(nodes, node) != 1 {
-        return LiveGoal::Dead;
+        return None;
     }
     let place = recall::goal_place(image, query, nodes, places, node);
     let words = goals::clause_words(image, query, nodes, memory::frame(nodes, node));
     let predicate = words::goal_predicate(words::word_at(words, place));
     let count = words::clause_count(words::word_at(image, 1 + predicate as usize));
     if count <= memory::tried(nodes, node) {
-        return LiveGoal::Dead;
+        return None;
     }
-    LiveGoal::Live(predicate, place)
+    Some((predicate, place))
 }
 
 // Rule 5: a node whose predicate is sequential waits while it has a child.
@@ -48,10 +41,7 @@ fn waits(nodes: &[u32], children: &[u32], word: u32, node: u32) -> bool
     requires { Counted nodes.now children.now }
     ensures { result ≡ (eqb (sequential word) 1 && has_child nodes.now node) }
 {
-    if words::sequential(word) != 1 {
-        return false;
-    }
-    children::has_child(nodes, children, node)
+    words::sequential(word) == 1 && children::has_child(nodes, children, node)
 }
 
 // Rules 5 to 7, at a live node.
@@ -84,10 +74,9 @@ pub fn live_advance<'a>(
     ) {
         return Progress::Did(Outcome::Wait);
     }
-    let child = memory::lowest_free(nodes);
-    if SLOTS <= child {
+    let Some(child) = memory::lowest_free(nodes) else {
         return Progress::Did(Outcome::Full);
-    }
+    };
     take_next(
         image, query, nodes, cells, trail, array, workers, clauses, children, worker, node, child,
         predicate, place, look, most,

@@ -46,10 +46,7 @@ fn take_one<'a>(
 fn allowed(look: bool, most: u32) -> u32
     ensures { result ≤ most }
 {
-    if look {
-        return most;
-    }
-    0
+    if look { most } else { 0 }
 }
 
 // Rule 7. The next clause is taken; where its head is sure to fail, it and those behind it that are too, at most so many.

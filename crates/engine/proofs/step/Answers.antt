@@ -1,5 +1,5 @@
 -- `engine::step` meets its contract. Assumes nothing.
-use native.Mathlib.Omega.{arith}
+use Rattle.std.proofs.Common.{arith}
 use Rattle.model.specs.Steps.{view}
 use Rattle.engine.proofs.RunLaws.{progress-one, progress-did}
 use Rattle.turns.proofs.HandLaws.{begun-at-hand}

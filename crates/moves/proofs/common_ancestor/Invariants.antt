@@ -1,10 +1,8 @@
 -- `moves::common_ancestor` meets its contract. The loop's invariant: what is left to do gives the whole. Assumes nothing.
-use mathlib.Core.Path.{◌≡◌}
-use Rattle.model.specs.Moves.{meeting, common_ancestor}
+use Rattle.std.proofs.Common.{◌≡◌}
+use Rattle.model.specs.Moves.{common_ancestor}
+use Rattle.moves.proofs.MoveLaws.{meeting_after}
 use Rattle.moves.proofs.common_ancestor.Given as goal
 
-abbrev pub invariant-loop-left : goal.invariant-loop-left
-invariant-loop-left l = meeting l.left l.nodes l.here l.there ≡ common_ancestor l.nodes l.slot l.other
-
-abbrev pub decreases-loop-left : goal.decreases-loop-left
-decreases-loop-left l = l.left
+abbrev pub invariant-loop : goal.invariant-loop
+invariant-loop l = meeting_after l.nodes l.most l.counter l.here l.there ≡ common_ancestor l.nodes l.slot l.other

@@ -1,5 +1,5 @@
 -- `moves::con_word` meets its contract. Assumes nothing.
-use native.Mathlib.Omega.{arith}
+use Rattle.std.proofs.Common.{arith}
 use Rattle.model.specs.Memory.{cut_to, word_of}
 use Rattle.model.specs.Fields.{widths_of, total, below, join}
 use Rattle.moves.proofs.con_word.Goals as goal

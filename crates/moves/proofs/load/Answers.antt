@@ -1,5 +1,5 @@
 -- `moves::load` meets its contract. Assumes nothing.
-use mathlib.Core.Path.{ap, ◌∙◌}
+use Rattle.std.proofs.Common.{ap, ◌∙◌}
 use Rattle.model.specs.Fields.{variables}
 use Rattle.moves.proofs.LoadLaws.{loaded-of}
 use Rattle.moves.proofs.load.Goals as goal

@@ -1,6 +1,6 @@
 -- `moves::move_to` meets its contract. Assumes nothing.
-use Prim.Native.Nat.{◌*◌}
-use native.Mathlib.Nat.{add-sub_cancel_left}
+use Rattle.std.proofs.Common.{◌*◌}
+use Rattle.std.proofs.Math.Nat.{add-sub_cancel_left}
 use Rattle.moves.proofs.MoveLaws.{moved_by}
 use Rattle.moves.proofs.move_to.Goals as goal
 

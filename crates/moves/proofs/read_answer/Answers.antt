@@ -1,9 +1,6 @@
 -- `moves::read_answer` meets its contract. Assumes nothing.
-use mathlib.Core.Path.{ap, ◌∙◌}
-use Prim.Native.Nat.{◌*◌}
-use native.Mathlib.Omega.{arith}
-use native.Mathlib.Nat.{add-sub_cancel_left}
-use lib.ListN.{get_or}
+use Rattle.std.proofs.Common.{ap, ◌∙◌, ◌*◌, arith, get_or}
+use Rattle.std.proofs.Math.Nat.{add-sub_cancel_left}
 use Rattle.model.specs.Fields.{variables}
 use Rattle.memory.proofs.FieldBounds.{variables-lt}
 use Rattle.moves.proofs.ReadLaws.{answer-of}

@@ -1,10 +1,9 @@
 -- `moves::wipe` meets its contract. Assumes nothing.
-use mathlib.Core.Path.{◌∙◌}
-use Rattle.moves.proofs.LoadLaws.{cleared-all, same_memory}
+use Rattle.moves.proofs.LoadLaws.{filled, same_memory}
 use Rattle.moves.proofs.wipe.Goals as goal
 
 pub returns : goal.returns
 returns c = let a = c.args in
     let p = c.requires in
-    same_memory (c.clear.ensures ∙ cleared-all 256 a.nodes.now p.0) (c.clear-2.ensures ∙ cleared-all 2048 a.cells.now p.1)
-    (c.clear-3.ensures ∙ cleared-all 2048 a.trail.now p.2) (c.clear-4.ensures ∙ cleared-all 8192 a.arrays.now p.3) (c.clear-5.ensures ∙ cleared-all 4 a.workers.now p.4)
+    same_memory (filled 256 a.nodes.now _ p.0 c.fill.ensures.after) (filled 2048 a.cells.now _ p.1 c.fill-2.ensures.after)
+    (filled 2048 a.trail.now _ p.2 c.fill-3.ensures.after) (filled 8192 a.arrays.now _ p.3 c.fill-4.ensures.after) (filled 4 a.workers.now _ p.4 c.fill-5.ensures.after)

@@ -1,16 +1,15 @@
 -- `passing::skip` meets its contract. Assumes nothing.
-use mathlib.Core.Path.{sym, ap, ap₂, ◌∙◌}
-use Prim.Native.Nat.{ℕ, ◌-◌, min}
-use native.Mathlib.Omega.{arith}
-use Rattle.model.specs.Fields.{arity, clause_count}
-use Rattle.goals.proofs.PlaceLaws.{clause_from-end}
+use Rattle.std.proofs.Common.{refl, ap, ◌∙◌, arith}
+use Rattle.model.specs.Fields.{clause_count}
+use Rattle.model.specs.Decoding.{clause_from}
 use Rattle.memory.proofs.FieldBounds.{arity-lt, clause_count-lt, own_variables-lt, base-lt, frame-lt}
-use Rattle.passing.proofs.SkipLaws.{skipped-idle, skipped-not, skipped-written, skipped-over}
+use Rattle.passing.proofs.SkipLaws.{skipped-idle}
 use Rattle.passing.proofs.skip.Goals as goal
 
 pub returns-then-most-eq0 : goal.returns-then-most-eq0
+unfolding clause_from
 returns-then-most-eq0 c = let a = c.args in
-    (skipped-idle a.image.now a.query.now a.nodes.now a.cells.now a.trail.now a.array.now a.node a.child a.predicate a.place a.position a.most c.if-most-eq0.true, clause_from-end a.image.now 0 a.position (omega arith))
+    (skipped-idle a.image.now a.query.now a.nodes.now a.cells.now a.trail.now a.array.now a.node a.child a.predicate a.place a.position a.most c.if-most-eq0.true, refl)
 
 pub overflow_add-child_base : goal.overflow_add-child_base
 overflow_add-child_base c = let a = c.args in
@@ -20,37 +19,15 @@ pub fails_plainly-requires : goal.fails_plainly-requires
 fails_plainly-requires c = let a = c.args in
     omega (arith, c.frame-slot.ensures, frame-lt a.nodes.now a.node, c.arity-arity.ensures, arity-lt c.word_at-word.result, c.requires)
 
-pub returns-then-not-fails_plainly : goal.returns-then-not-fails_plainly
-returns-then-not-fails_plainly c = let a = c.args in (
-  skipped-not a.image.now a.query.now a.nodes.now a.cells.now a.trail.now a.array.now c.clause_words-words.result.now a.node a.child a.predicate a.place a.position a.most c.frame-slot.result c.base.result c.own_variables.result c.arity-arity.result
-      c.frame-slot.ensures c.clause_words-words.ensures c.base.ensures c.own_variables.ensures (c.arity-arity.ensures ∙ ap arity c.word_at-word.ensures) (sym c.if-not-fails_plainly.true ∙ c.fails_plainly.ensures),
-  clause_from-end a.image.now 0 a.position (omega arith),
-)
-
 pub overflow_mul-arity : goal.overflow_mul-arity
 overflow_mul-arity c = omega (arith, c.arity-arity.ensures, arity-lt c.word_at-word.result)
 
 pub blank-requires : goal.blank-requires
 blank-requires c = omega (arith, c.ranges.child)
 
-pub returns-then-not-blank : goal.returns-then-not-blank
-returns-then-not-blank c = let a = c.args in (
-  skipped-written a.image.now a.query.now a.nodes.now a.cells.now a.trail.now a.array.now c.clause_words-words.result.now a.node a.child a.predicate a.place a.position a.most c.frame-slot.result c.base.result c.own_variables.result c.arity-arity.result
-      c.frame-slot.ensures c.clause_words-words.ensures c.base.ensures c.own_variables.ensures (c.arity-arity.ensures ∙ ap arity c.word_at-word.ensures) (sym c.if-not-fails_plainly.false ∙ c.fails_plainly.ensures) (sym c.if-not-blank.true ∙ c.blank.ensures),
-  clause_from-end a.image.now 0 a.position (omega arith),
-)
-
 pub overflow_sub-untried : goal.overflow_sub-untried
 overflow_sub-untried c = omega (arith, c.tried.ensures, c.clause_count.ensures ∙ ap clause_count c.word_at-word.ensures, c.requires.2)
 
 pub pass_over-requires : goal.pass_over-requires
 pass_over-requires c = let a = c.args in
-    omega (arith, c.frame-slot.ensures, frame-lt a.nodes.now a.node, c.arity-arity.ensures, arity-lt c.word_at-word.result, c.requires, c.least.ensures, c.clause_count.ensures, clause_count-lt c.word_at-word.result)
-
-pub returns : goal.returns
-returns c = let a = c.args in (
-  skipped-over a.image.now a.query.now a.nodes.now a.cells.now a.trail.now a.array.now c.clause_words-words.result.now a.node a.child a.predicate a.place a.position a.most c.frame-slot.result c.base.result c.own_variables.result c.arity-arity.result
-      c.frame-slot.ensures c.clause_words-words.ensures c.base.ensures c.own_variables.ensures (c.arity-arity.ensures ∙ ap arity c.word_at-word.ensures) (sym c.if-not-fails_plainly.false ∙ c.fails_plainly.ensures) (sym c.if-not-blank.false ∙ c.blank.ensures)
-      c.least.result _ (c.least.ensures ∙ ap₂ (λ (n k : ℕ). min a.most (n - k)) (c.clause_count.ensures ∙ ap clause_count c.word_at-word.ensures) c.tried.ensures) c.pass_over.ensures.0,
-  c.pass_over.ensures.1,
-)
+    omega (arith, c.frame-slot.ensures, frame-lt a.nodes.now a.node, c.arity-arity.ensures, arity-lt c.word_at-word.result, c.requires, c.min.ensures, c.clause_count.ensures, clause_count-lt c.word_at-word.result)

@@ -1,7 +1,5 @@
 -- `turns::dead::dead_advance` meets its contract. Assumes nothing.
-use mathlib.Core.Bool.{Bool}
-use mathlib.Core.Path.{ap, ◌∙◌}
-use lib.Dec.{eqb}
+use Rattle.std.proofs.Common.{Bool, ap, ◌∙◌, eqb}
 use Rattle.model.specs.Steps.{view, another_there, dead_rule}
 use Rattle.turns.proofs.HandLaws.{dead-agrees, step-agrees, follows}
 use Rattle.turns.proofs.dead.dead_advance.Goals as goal

@@ -1,8 +1,5 @@
 -- `turns::taking::take_next` meets its contract. Assumes nothing.
-use mathlib.Core.List.{List}
-use mathlib.Core.Path.{◌≡◌, ap, subst, sym, ◌∙◌}
-use Prim.Native.Nat.{ℕ, ◌<◌}
-use native.Mathlib.Omega.{arith}
+use Rattle.std.proofs.Common.{List, ◌≡◌, ap, subst, sym, ◌∙◌, ℕ, ◌<◌, arith}
 use Rattle.model.specs.Decoding.{clause_at, clause_from}
 use Rattle.model.specs.Memory.{frame, tried}
 use Rattle.model.specs.Goals.{clause_words}
