@@ -6,18 +6,114 @@ mod help;
 
 ghost use Rattle.std.specs.Prelude.{◌≡◌, ◌+◌, ◌≤◌, length, IfOk};
 ghost use Rattle.desk_model.specs.Desk.{line_size};
-ghost use Rattle.desk.specs.Rooms.{RoomAfter};
+ghost use Rattle.listing.specs.Fits.{Fits};
 
 use desk_model::{Line, Opened};
 use std::env::{Env, FillError};
 use std::rt::Files;
 use std::{fs, io, str};
 
-// Whether the line printed was the last; if not, where the next stands in the block, and the steps so far.
+// Where query and image stand among the words of a file: the query's length, and the count of all words.
 #[derive(Clone, Copy)]
-enum Printed {
-    Last,
-    More(usize, u32),
+struct Parts {
+    size: usize,
+    count: usize,
+}
+
+// The words of the file, and the memory that the search works in.
+#[derive(Drop)]
+struct Search {
+    words: [u32; 1297],
+    nodes: [u32; 256],
+    cells: [u32; 2048],
+    trail: [u32; 2048],
+    arrays: [u32; 8192],
+    workers: [u32; 4],
+}
+
+impl Search {
+    fn new() -> Search {
+        Search {
+            words: [0; 1297],
+            nodes: [0; 256],
+            cells: [0; 2048],
+            trail: [0; 2048],
+            arrays: [0; 8192],
+            workers: [0; 4],
+        }
+    }
+
+    fn open(&mut self, bytes: &[u8], line: &mut [u8]) -> Opened
+        ensures { Fits result }
+    {
+        listing::open(
+            bytes,
+            &mut self.words,
+            &mut self.nodes,
+            &mut self.cells,
+            &mut self.trail,
+            &mut self.arrays,
+            &mut self.workers,
+            line,
+        )
+    }
+
+    fn next_line(&mut self, parts: Parts, steps: u32, line: &mut [u8]) -> Line
+        requires { (1 + parts.size ≤ parts.count) × (parts.count ≤ 1297) }
+        ensures { line_size result ≤ 1024 }
+    {
+        let words: &[u32] = &self.words;
+        let start = 1 + parts.size;
+        listing::next_line(
+            &words[start..parts.count],
+            &words[1..start],
+            &mut self.nodes,
+            &mut self.cells,
+            &mut self.trail,
+            &mut self.arrays,
+            &mut self.workers,
+            steps,
+            line,
+        )
+    }
+}
+
+// Lines that are gathered and written out together, since a write for each takes longer.
+#[derive(Drop)]
+struct Block {
+    bytes: [u8; 65536],
+    filled: usize,
+}
+
+impl Block {
+    fn new() -> Block
+        ensures { result.filled ≡ 0 }
+    {
+        Block {
+            bytes: [0; 65536],
+            filled: 0,
+        }
+    }
+
+    fn write(&mut self, rt: &impl Print) -> io::Result<()>
+        requires { self.old.filled ≤ 65536 }
+        ensures { IfOk result (λ _. self.new.filled ≡ 0) }
+    {
+        rt.write_all(&self.bytes[..self.filled])?;
+        self.filled = 0;
+        Ok(())
+    }
+
+    // Writes the lines out where there is no room for one more.
+    fn make_room(&mut self, rt: &impl Print) -> io::Result<()>
+        requires { self.old.filled ≤ 65536 }
+        ensures { IfOk result (λ _. self.new.filled + 1024 ≤ 65536) }
+    {
+        if self.filled <= 65536 - 1024 {
+            return Ok(());
+        }
+        self.write(rt)
+    }
 }
 
 // More than the 5,188 bytes of the longest file, so that a longer one is seen to be too long.
@@ -38,204 +134,76 @@ fn path_room() -> [u8; 4096]
 fn read_named(rt: &impl Files, name: &[u8], bytes: &mut [u8]) -> usize
     ensures { result ≤ length bytes.new }
 {
-    match str::from_utf8(name) {
-        Ok(path) => match fs::open(rt, path) {
-            Ok(mut file) => files::read_full(&mut file, bytes),
-            Err(_) => 0,
-        },
-        Err(_) => 0,
-    }
+    let Ok(path) = str::from_utf8(name) else {
+        return 0;
+    };
+    let Ok(mut file) = fs::open(rt, path) else {
+        return 0;
+    };
+    files::read_full(&mut file, bytes)
 }
 
-// Writes the lines out where the block has no room for one more, and answers where the next line stands.
-fn write_block(rt: &impl Print, block: &[u8], at: usize) -> io::Result<usize>
-    requires { (at ≤ length block.now) × (1024 ≤ length block.now) }
-    ensures { IfOk result (λ next. next + 1024 ≤ length block.now) }
-{
-    if at <= block.len() - 1024 {
-        return Ok(at);
-    }
-    rt.write_all(&block[..at])?;
-    Ok(0)
-}
-
-// The next line, into the block from `at` on.
-fn next_line<'a>(
-    image: &'a [u32],
-    query: &'a [u32],
-    nodes: &mut [u32],
-    cells: &mut [u32],
-    trail: &mut [u32],
-    arrays: &mut [u32],
-    workers: &mut [u32],
-    steps: u32,
-    block: &mut [u8],
-    at: usize,
-) -> Line
-    requires { at + 1024 ≤ length block.old }
-    ensures { line_size result ≤ 1024 }
-{
-    let end = at + 1024;
-    listing::next_line(
-        image,
-        query,
-        nodes,
-        cells,
-        trail,
-        arrays,
-        workers,
-        steps,
-        &mut block[at..end],
-    )
-}
-
-// Prints the next line by way of the block. Answers where the one after it stands, and the steps so far, unless it was the last.
-#[tactic(auto, unfolding(crate::specs::Rooms::RoomAfter))]
-fn print_line<'a>(
+// Prints the next line by way of the block. Answers the steps so far, or None after the last line.
+fn print_line(
     rt: &impl Print,
-    image: &'a [u32],
-    query: &'a [u32],
-    nodes: &mut [u32],
-    cells: &mut [u32],
-    trail: &mut [u32],
-    arrays: &mut [u32],
-    workers: &mut [u32],
+    search: &mut Search,
+    parts: Parts,
     steps: u32,
-    block: &mut [u8],
-    at: usize,
-) -> io::Result<Printed>
-    requires { at + 1024 ≤ length block.old }
-    ensures { IfOk result (λ printed. RoomAfter printed block.new) }
+    block: &mut Block,
+) -> io::Result<Option<u32>>
+    requires { (1 + parts.size ≤ parts.count) × (parts.count ≤ 1297) × (block.old.filled + 1024 ≤ 65536) }
+    ensures { IfOk result (λ _. block.new.filled + 1024 ≤ 65536) }
 {
-    match next_line(
-        image, query, nodes, cells, trail, arrays, workers, steps, block, at,
-    ) {
-        Line::NoRoom => Ok(Printed::Last),
+    let at = block.filled;
+    match search.next_line(parts, steps, &mut block.bytes[at..at + 1024]) {
+        Line::NoRoom => Ok(None),
         Line::Last(size) => {
-            let all = at + size;
-            rt.write_all(&block[..all])?;
-            Ok(Printed::Last)
+            block.filled = at + size;
+            block.write(rt)?;
+            Ok(None)
         }
         Line::More(size, so_far) => {
-            let next = write_block(rt, block, at + size)?;
-            Ok(Printed::More(next, so_far))
+            block.filled = at + size;
+            block.make_room(rt)?;
+            Ok(Some(so_far))
         }
     }
 }
 
 // There is at most an answer for each of 65,535 steps, and the last line.
-#[tactic(auto, unfolding(crate::specs::Rooms::RoomAfter))]
-fn print_lines<'a>(
+fn print_lines(
     rt: &impl Print,
-    image: &'a [u32],
-    query: &'a [u32],
-    nodes: &mut [u32],
-    cells: &mut [u32],
-    trail: &mut [u32],
-    arrays: &mut [u32],
-    workers: &mut [u32],
-    block: &mut [u8],
+    search: &mut Search,
+    parts: Parts,
+    block: &mut Block,
 ) -> io::Result<()>
-    requires { 1024 ≤ length block.old }
+    requires { (1 + parts.size ≤ parts.count) × (parts.count ≤ 1297) × (block.old.filled + 1024 ≤ 65536) }
 {
-    let mut at: usize = 0;
     let mut steps: u32 = 0;
-    let mut turns: u32 = 65536;
-    while 0 < turns {
-        match print_line(
-            rt, image, query, nodes, cells, trail, arrays, workers, steps, block, at,
-        )? {
-            Printed::Last => {
-                return Ok(());
-            }
-            Printed::More(next, so_far) => {
-                at = next;
-                steps = so_far;
-            }
-        }
-        turns -= 1;
+    for _ in 0..65536 {
+        let Some(so_far) = print_line(rt, search, parts, steps, block)? else {
+            return Ok(());
+        };
+        steps = so_far;
     }
     Ok(())
 }
 
-fn print_search(
-    rt: &impl Print,
-    words: &[u32],
-    size: usize,
-    count: usize,
-    nodes: &mut [u32],
-    cells: &mut [u32],
-    trail: &mut [u32],
-    arrays: &mut [u32],
-    workers: &mut [u32],
-    block: &mut [u8],
-) -> io::Result<()>
-    requires { (1 + size ≤ count) × (count ≤ length words.now) × (1024 ≤ length block.old) }
-{
-    let start = 1 + size;
-    print_lines(
-        rt,
-        &words[start..count],
-        &words[1..start],
-        nodes,
-        cells,
-        trail,
-        arrays,
-        workers,
-        block,
-    )
-}
-
 // The listing of a file.
 #[tactic(auto, unfolding(listing::specs::Fits::Fits))]
-fn print_listing(
-    rt: &impl Print,
-    bytes: &[u8],
-    words: &mut [u32],
-    nodes: &mut [u32],
-    cells: &mut [u32],
-    trail: &mut [u32],
-    arrays: &mut [u32],
-    workers: &mut [u32],
-    block: &mut [u8],
-) -> io::Result<()>
-    requires { (1297 ≤ length words.old) × (1024 ≤ length block.old) }
-{
-    match listing::open(bytes, words, nodes, cells, trail, arrays, workers, block) {
+fn print_listing(rt: &impl Print, bytes: &[u8]) -> io::Result<()> {
+    let mut search = Search::new();
+    let mut block = Block::new();
+    match search.open(bytes, &mut block.bytes) {
         Opened::NoRoom => Ok(()),
-        Opened::Refused(size) => rt.write_all(&block[..size]),
-        Opened::Ready(size, count) => print_search(
-            rt, words, size, count, nodes, cells, trail, arrays, workers, block,
-        ),
+        Opened::Refused(size) => {
+            block.filled = size;
+            block.write(rt)
+        }
+        Opened::Ready(size, count) => {
+            print_lines(rt, &mut search, Parts { size, count }, &mut block)
+        }
     }
-}
-
-fn block_room() -> [u8; 65536]
-    ensures { 65536 ≡ length result }
-{
-    [0; 65536]
-}
-
-// The memory that a search works in.
-fn search(rt: &impl Print, bytes: &[u8]) -> io::Result<()> {
-    let mut words = [0u32; 1297];
-    let mut nodes = [0u32; 256];
-    let mut cells = [0u32; 2048];
-    let mut trail = [0u32; 2048];
-    let mut arrays = [0u32; 8192];
-    let mut workers = [0u32; 4];
-    let mut block = block_room();
-    print_listing(
-        rt,
-        bytes,
-        &mut words,
-        &mut nodes,
-        &mut cells,
-        &mut trail,
-        &mut arrays,
-        &mut workers,
-        &mut block,
-    )
 }
 
 // Without an argument it reads standard input.
@@ -252,5 +220,5 @@ fn main(rt: HostRuntime) -> io::Result<()> {
         Err(FillError::NotPresent) => files::read_full(&mut rt.reader(), &mut bytes),
         Err(FillError::TooLong) => 0,
     };
-    search(&rt, &bytes[..n])
+    print_listing(&rt, &bytes[..n])
 }

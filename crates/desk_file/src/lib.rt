@@ -5,72 +5,59 @@ ghost use Rattle.std.specs.Prelude.{◌≡◌, ◌++◌, ◌+◌, ◌*◌, ◌�
 ghost use Rattle.model.specs.Bytes.{word_of_bytes, words_from};
 ghost use Rattle.desk_model.specs.Desk.{file_parts, laid, lay_call};
 
-use desk_model::FileParts;
-
 // The longest query that a search takes, in words.
 const QUERY_LIMIT: usize = 272;
 
-fn word_of(a: u8, b: u8, c: u8, d: u8) -> u32
-    ensures { result ≡ ((a * 256 + b) * 256 + c) * 256 + d }
-{
-    ((a as u32 * 256 + b as u32) * 256 + c as u32) * 256 + d as u32
-}
-
 // Word `k` of the bytes, most significant byte first.
+#[tactic(auto, unfolding(model::specs::Bytes::word_of_bytes))]
 fn word_of_bytes(bytes: &[u8], k: usize) -> u32
     requires { 4 * k + 3 < length bytes.now }
     ensures { result ≡ word_of_bytes bytes.now k }
 {
     let at = 4 * k;
-    word_of(bytes[at], bytes[at + 1], bytes[at + 2], bytes[at + 3])
+    u32::from_be_bytes([bytes[at], bytes[at + 1], bytes[at + 2], bytes[at + 3]])
 }
 
-fn file_parts(bytes: &[u8]) -> FileParts
+fn file_parts(bytes: &[u8]) -> Option<(usize, usize)>
     ensures { result ≡ file_parts bytes.now }
 {
     let length = bytes.len();
     if length == 0 {
-        return FileParts::Unfit;
+        return None;
     }
     if length % 4 != 0 {
-        return FileParts::Unfit;
+        return None;
     }
     let size = word_of_bytes(bytes, 0) as usize;
     if QUERY_LIMIT < size {
-        return FileParts::Unfit;
+        return None;
     }
     if length / 4 < 1 + size {
-        return FileParts::Unfit;
+        return None;
     }
     if 1024 < length / 4 - (1 + size) {
-        return FileParts::Unfit;
+        return None;
     }
-    FileParts::Fit(size, length / 4)
+    Some((size, length / 4))
 }
 
 fn lay_words(bytes: &[u8], count: usize, words: &mut [u32])
     requires { (count ≤ length words.old) × (4 * count ≤ length bytes.now) }
     ensures { words.new ≡ words_from bytes.now count 0 ++ drop count words.old }
 {
-    let mut k: usize = 0;
-    while k < count {
+    for k in 0..count {
         words[k] = word_of_bytes(bytes, k);
-        k += 1;
     }
 }
 
-// A file's parts, and its words at the front of a room of at least 1,297. Unfit where the file is, or the room too small; the room is then left as it is.
-pub fn lay_file(bytes: &[u8], words: &mut [u32]) -> FileParts
+// A file's parts, and its words at the front of a room of at least 1,297. None where the file is unfit, or the room too small; the room is then left as it is.
+pub fn lay_file(bytes: &[u8], words: &mut [u32]) -> Option<(usize, usize)>
     ensures { laid result words.new ≡ lay_call bytes.now words.old }
 {
     if words.len() < 1297 {
-        return FileParts::Unfit;
+        return None;
     }
-    match file_parts(bytes) {
-        FileParts::Unfit => FileParts::Unfit,
-        FileParts::Fit(size, count) => {
-            lay_words(bytes, count, words);
-            FileParts::Fit(size, count)
-        }
-    }
+    let (size, count) = file_parts(bytes)?;
+    lay_words(bytes, count, words);
+    Some((size, count))
 }

@@ -1,7 +1,7 @@
 -- The desk program, from the bytes of its file to the bytes of its listing: document 01, "The desk program". The lines themselves stand in `Lines`.
 -- Where the page is silent: an unfit file comes before all else, then the image is judged, then the query; step 65,535 may still be an answer or the end of
 -- the search, and `spent` comes at once after it otherwise, even where the next step would be Full. Assumes nothing.
-use Rattle.std.specs.Prelude.{cond, ◌&&◌, List, [], ◌++◌, ℕ, zero, suc, ◌+◌, ◌-◌, ◌/◌, ◌%◌, eqb, leb, length, take, drop, Ok, Err}
+use Rattle.std.specs.Prelude.{Option, None, Some, cond, ◌&&◌, List, [], ◌++◌, ℕ, zero, suc, ◌+◌, ◌-◌, ◌/◌, ◌%◌, eqb, leb, length, take, drop, Ok, Err}
 use Rattle.model.specs.declared.Outcome.{Outcome}
 use Rattle.model.specs.declared.Outcome.TheVariants.{Tried, Extended, Answer as AnswerMade, Back, Left, Wait, Finished as FinishedSearch, Spent as SpentBudget, Full as FullSlots}
 use Rattle.model.specs.Answers.{Verdict}
@@ -15,26 +15,31 @@ use Rattle.model.specs.Calls.{load_call}
 use Rattle.desk_model.specs.declared.Ending.TheVariants.{Finished, Full, Spent}
 use Rattle.desk_model.specs.declared.Stop.{Stop}
 use Rattle.desk_model.specs.declared.Stop.TheVariants.{Answer, Ended}
-use Rattle.desk_model.specs.declared.FileParts.{FileParts}
-use Rattle.desk_model.specs.declared.FileParts.TheVariants.{Unfit, Fit}
 use Rattle.desk_model.specs.declared.Opened.{Opened}
 use Rattle.desk_model.specs.declared.Opened.TheVariants.{NoRoom as NoRoomToOpen, Refused as RefusedFile, Ready}
 use Rattle.desk_model.specs.declared.Line.{Line}
 use Rattle.desk_model.specs.declared.Line.TheVariants.{NoRoom, More, Last}
 use Rattle.desk_model.specs.Lines.{answer_line, ending_line, refused_line, roomy}
 
+-- the parts of a file: the query's length and the count of all words; or none, where no such file is read at all
+abbrev pub FileParts : Type 0
+FileParts = Option (ℕ × ℕ)
+
+abbrev pub fit : ℕ → ℕ → FileParts
+fit size count = Some (size, count)
+
 -- "query length, query, image (at most 272 and 1,024 words)"; "a file empty, not of whole words, too short for its query, or past either limit" is unfit
 unfoldable pub file_parts : List ℕ → FileParts
 file_parts bytes =
-    cond (eqb (length bytes) 0) Unfit
+    cond (eqb (length bytes) 0) None
     (cond (eqb (length bytes % 4) 0)
     (cond (leb (word_of_bytes bytes 0) 272)
     (cond (leb (1 + word_of_bytes bytes 0) (length bytes / 4))
-    (cond (leb (length bytes / 4 - (1 + word_of_bytes bytes 0)) 1024) (Fit (word_of_bytes bytes 0) (length bytes / 4))
-    Unfit)
-    Unfit)
-    Unfit)
-    Unfit)
+    (cond (leb (length bytes / 4 - (1 + word_of_bytes bytes 0)) 1024) (fit (word_of_bytes bytes 0) (length bytes / 4))
+    None)
+    None)
+    None)
+    None)
 
 -- the query and the image among a file's words, by the query's length
 abbrev pub query_of : List ℕ → ℕ → List ℕ
@@ -52,11 +57,11 @@ abbrev pub laid : FileParts → List ℕ → Laid
 laid parts words = record { parts = parts; words = words }
 
 abbrev pub laid_by : FileParts → List ℕ → List ℕ → Laid
-laid_by Unfit all words = laid Unfit words
-laid_by (Fit size count) all words = laid (Fit size count) (all ++ drop count words)
+laid_by None all words = laid None words
+laid_by (Some (size, count)) all words = laid (fit size count) (all ++ drop count words)
 
 unfoldable pub lay_call : List ℕ → List ℕ → Laid
-lay_call bytes words = cond (leb 1297 (length words)) (laid_by (file_parts bytes) (words_of_bytes bytes) words) (laid Unfit words)
+lay_call bytes words = cond (leb 1297 (length words)) (laid_by (file_parts bytes) (words_of_bytes bytes) words) (laid None words)
 
 -- what a run of worker 0 stops at; a lone worker never sees Wait, and no run stops at what else is here said to be spent
 unfoldable pub stop_of : Outcome → Stop
@@ -108,8 +113,8 @@ search_listing (Err stop) image query = refused_line (refusal_number stop.0) sto
 search_listing (Ok u) image query = lines_from 65536 image query (loaded query) 0
 
 unfoldable pub parts_listing : FileParts → List ℕ → List ℕ
-parts_listing Unfit words = refused_line 28 0
-parts_listing (Fit size count) words = search_listing (check_query (image_of words size) (query_of words size)) (image_of words size) (query_of words size)
+parts_listing None words = refused_line 28 0
+parts_listing (Some (size, count)) words = search_listing (check_query (image_of words size) (query_of words size)) (image_of words size) (query_of words size)
 
 -- the whole listing
 unfoldable pub listing : List ℕ → List ℕ
@@ -141,8 +146,8 @@ begun_from size count words m room =
     begun_by l.answer size count words l.after room
 
 unfoldable pub begun_as : FileParts → List ℕ → Memory → List ℕ → Begun
-begun_as Unfit words m room = refusing 28 0 words m room
-begun_as (Fit size count) words m room = begun_from size count words m room
+begun_as None words m room = refusing 28 0 words m room
+begun_as (Some (size, count)) words m room = begun_from size count words m room
 
 unfoldable pub open_call : List ℕ → List ℕ → Memory → List ℕ → Begun
 open_call bytes words m room =

@@ -1,7 +1,7 @@
 -- The lines of the desk program's listing, as bytes: document 01, "The desk program", from "Each answer prints" on. A byte is the number of its ASCII character.
 -- Where the page is silent: fields are parted by one space (32), every line ends with a newline (10), a number has no leading zero,
 -- and an answer to a query without variables is the step count alone. Assumes nothing.
-use Rattle.std.specs.Prelude.{Bool, true, false, cond, List, [], ◌∷◌, ◌++◌, ℕ, zero, suc, ◌+◌, ◌/◌, ◌%◌, eqb, ltb, leb, length, set, drop}
+use Rattle.std.specs.Prelude.{Option, None, Some, Bool, true, false, cond, List, [], ◌∷◌, ◌++◌, ℕ, zero, suc, ◌+◌, ◌/◌, ◌%◌, eqb, ltb, leb, length, set, drop}
 use Rattle.model.specs.Fields.{op, constant, variable_number}
 use Rattle.desk_model.specs.declared.Ending.{Ending}
 use Rattle.desk_model.specs.declared.Ending.TheVariants.{Finished, Full, Spent}
@@ -58,18 +58,18 @@ unfoldable pub written : ℕ → List ℕ → List ℕ → List ℕ
 written at [] room = room
 written at (byte ∷ bytes) room = written (at + 1) bytes (set room at byte)
 
--- how long a line is, and the room with the line at its front
+-- how long a line is, or none where nothing is written; and the room with the line at its front
 pub record Wrote : Type 0 where
-  pub size : ℕ
+  pub size : Option ℕ
   pub room : List ℕ
 
-abbrev pub wrote : ℕ → List ℕ → Wrote
+abbrev pub wrote : Option ℕ → List ℕ → Wrote
 wrote size room = record { size = size; room = room }
 
 -- Every line but that of an answer of more than 64 values is shorter than 1,024 bytes, and a query has at most 32 variables.
 -- In less room, or for more values, nothing is written.
 abbrev pub line_in : Bool → List ℕ → List ℕ → Wrote
-line_in fits line room = cond fits (wrote (length line) (line ++ drop (length line) room)) (wrote 0 room)
+line_in fits line room = cond fits (wrote (Some (length line)) (line ++ drop (length line) room)) (wrote None room)
 
 abbrev pub roomy : List ℕ → Bool
 roomy room = leb 1024 (length room)

@@ -2,7 +2,7 @@
 #![tactic(auto)]
 
 // How a search ends.
-#[derive(Clone, Copy)]
+#[derive(Clone, Copy, Debug, PartialEq, Eq)]
 pub enum Ending {
     Finished,
     Full,
@@ -10,21 +10,14 @@ pub enum Ending {
 }
 
 // Where a run of worker 0 stops: at an answer, or at the search's end.
-#[derive(Clone, Copy)]
+#[derive(Clone, Copy, Debug, PartialEq, Eq)]
 pub enum Stop {
     Answer,
     Ended(Ending),
 }
 
-// The parts of a file: the query's length and the count of all words; or no file that is read at all.
-#[derive(Clone, Copy)]
-pub enum FileParts {
-    Unfit,
-    Fit(usize, usize),
-}
-
 // What opening a file answers: nothing was done, for want of room; the length of the line that refuses it; or its parts, the memory loaded.
-#[derive(Clone, Copy)]
+#[derive(Clone, Copy, Debug, PartialEq, Eq)]
 pub enum Opened {
     NoRoom,
     Refused(usize),
@@ -32,7 +25,7 @@ pub enum Opened {
 }
 
 // What the next line answers: nothing was done, for want of room; an answer's line, by its length, and the steps so far; or the last line, by its length.
-#[derive(Clone, Copy)]
+#[derive(Clone, Copy, Debug, PartialEq, Eq)]
 pub enum Line {
     NoRoom,
     More(usize, u32),

@@ -1,7 +1,8 @@
 // What the programs read a file with. No promise can say which bytes a file has: of a reader that says what it has left, the bytes read are those.
 #![tactic(auto)]
 
-ghost use Rattle.std.specs.Prelude.{◌≤◌, length, take};
+ghost use Rattle.std.specs.Prelude.{◌≡◌, ◌*◌, ◌≤◌, List, ℕ, length, take};
+ghost use Rattle.std.specs.Int.{w32, from_be_bytes};
 ghost use Rattle.std.specs.Io.KnownBytes.{Consumes};
 
 use std::io::Read;
@@ -14,16 +15,27 @@ pub fn read_full<R: Read>(file: &mut R, bytes: &mut [u8]) -> usize
     let mut done: usize = 0;
     while done < bytes.len() {
         match file.read(&mut bytes[done..]) {
-            Ok(count) => {
-                if count == 0 {
-                    return done;
-                }
-                done += count;
-            }
-            Err(_) => {
-                return done;
-            }
+            Ok(0) | Err(_) => return done,
+            Ok(count) => done += count,
         }
     }
     done
+}
+
+// A word, most significant byte first. Past the end of the file it is 0, and a file that ends within a word reads on as zeros.
+pub fn next_word<R: Read>(file: &mut R) -> u32
+    ensures { (bytes : List ℕ) × (count : ℕ) × (count ≤ 4) × (result ≡ from_be_bytes w32 bytes) × (Consumes (R.remaining file.old) (R.remaining file.new) (take count bytes)) }
+{
+    let mut four = [0u8; 4];
+    read_full(file, &mut four);
+    u32::from_be_bytes(four)
+}
+
+// As many words as there is room for.
+pub fn read_words<R: Read>(file: &mut R, words: &mut [u32])
+    ensures { (bytes : List ℕ) × (length bytes ≤ 4 * length words.new) × (Consumes (R.remaining file.old) (R.remaining file.new) bytes) }
+{
+    for word in words.iter_mut() {
+        *word = next_word(file);
+    }
 }

@@ -4,36 +4,51 @@
 // Kind 0 is an image, 1 an image and a query, 2 to 5 the image's bytes less 0 to 3 of them, 6 a long image made here from one word.
 #![tactic(auto)]
 
-ghost use Rattle.std.specs.Prelude.{◌≡◌, ◌+◌, ◌*◌, ◌≤◌, ◌<◌, length};
+ghost use Rattle.std.specs.Prelude.{◌≡◌, ◌+◌, ◌*◌, ◌≤◌, ◌<◌, length, IfSome};
 
 use model::Verdict;
 use std::{fs, io};
 
 #[derive(Clone, Copy)]
-enum Found {
-    Agrees(usize),
-    Differs(usize),
-    Ends,
+enum Kind {
+    Image,
+    Query,
+    // The image's bytes less so many.
+    Bytes(usize),
+    Long,
 }
 
-fn word_of(a: u8, b: u8, c: u8, d: u8) -> u32 {
-    ((a as u32 * 256 + b as u32) * 256 + c as u32) * 256 + d as u32
+impl From<u32> for Kind {
+    fn from(word: u32) -> Kind {
+        match word {
+            0 => Kind::Image,
+            1 => Kind::Query,
+            6 => Kind::Long,
+            _ => Kind::Bytes((word as usize + 2) % 4),
+        }
+    }
+}
+
+// A stored case; its words begin at word `start`, and those of the next at word `end`.
+#[derive(Clone, Copy)]
+struct Case<'a> {
+    kind: Kind,
+    image: &'a [u32],
+    query: &'a [u32],
+    expected: u64,
+    start: usize,
+    end: usize,
 }
 
 // The words of `bytes`, as many as there is room for; the count of them.
 fn read_words(bytes: &[u8], words: &mut [u32]) -> usize
     ensures { result ≤ length words.new }
 {
-    let mut k: usize = 0;
-    while k < words.len() {
-        if bytes.len() / 4 <= k {
-            return k;
-        }
-        let at = 4 * k;
-        words[k] = word_of(bytes[at], bytes[at + 1], bytes[at + 2], bytes[at + 3]);
-        k += 1;
+    let (fours, _) = bytes.as_chunks::<4>();
+    for (word, four) in words.iter_mut().zip(fours) {
+        *word = u32::from_be_bytes(*four);
     }
-    k
+    words.len().min(fours.len())
 }
 
 // Number and position as the check's one number.
@@ -51,23 +66,9 @@ fn answer(verdict: Verdict) -> u64 {
 
 // Word `k`, most significant byte first, where there is room for it.
 fn put(bytes: &mut [u8], k: usize, word: u32) {
-    if bytes.len() / 4 <= k {
-        return;
+    if k < bytes.len() / 4 {
+        bytes[4 * k..4 * k + 4].copy_from_slice(&word.to_be_bytes());
     }
-    let at = 4 * k;
-    bytes[at] = (word / 16777216 % 256) as u8;
-    bytes[at + 1] = (word / 65536 % 256) as u8;
-    bytes[at + 2] = (word / 256 % 256) as u8;
-    bytes[at + 3] = (word % 256) as u8;
-}
-
-fn least(a: u32, b: u32) -> u32
-    ensures { (result ≤ a) × (result ≤ b) }
-{
-    if a < b {
-        return a;
-    }
-    b
 }
 
 // 128 predicates of arity 0 that share the clauses, 1,023 each while they last.
@@ -75,7 +76,7 @@ fn put_predicates(bytes: &mut [u8], clauses: u32) {
     let mut left = clauses;
     let mut at: u32 = 129;
     for p in 0..128usize {
-        let count = least(left, 1023);
+        let count = left.min(1023);
         put(bytes, 1 + p, count * 131072 + at);
         at += count;
         left -= count;
@@ -89,13 +90,10 @@ fn put_clauses(bytes: &mut [u8], words: usize) {
 }
 
 fn check_bytes(bytes: &[u8], start: usize, end: usize) -> u64 {
-    if bytes.len() < end {
-        return 1;
+    match bytes.get(start..end) {
+        Some(part) => host::cumbwael_check(part),
+        None => 1,
     }
-    if end < start {
-        return 1;
-    }
-    host::cumbwael_check(&bytes[start..end])
 }
 
 // Room for the bytes of the longest image that is made here, and some more.
@@ -115,72 +113,66 @@ fn check_long(beyond: u32) -> u64 {
     check_bytes(&bytes, 0, 4 * words as usize)
 }
 
-fn check_case(kind: u32, bytes: &[u8], image: &[u32], query: &[u32], start: usize) -> u64
-    requires { start < 1000000 }
-{
-    match kind {
-        0 => answer(image::check_image(image)),
-        1 => answer(image::check_query(image, query)),
-        6 => {
-            if image.len() == 0 {
-                return 1;
-            }
-            check_long(image[0])
+impl<'a> Case<'a> {
+    // The case at word `at`, or None where there is no whole case.
+    fn at(words: &'a [u32], at: usize) -> Option<Case<'a>>
+        ensures { IfSome result (λ case. case.start < 1000000) }
+    {
+        if 900000 < at || words.len() < at + 5 {
+            return None;
         }
-        _ => {
-            let from = 4 * start;
-            let whole = image.len() % 1000000 * 4;
-            let less = (kind as usize + 2) % 4;
-            if whole < less {
-                return 1;
-            }
-            check_bytes(bytes, from, from + whole - less)
+        let start = at + 5;
+        let mid = start + (words[at + 1] % 1000000) as usize;
+        let end = mid + (words[at + 2] % 1000000) as usize;
+        if words.len() < end {
+            return None;
         }
+        Some(Case {
+            kind: Kind::from(words[at]),
+            image: &words[start..mid],
+            query: &words[mid..end],
+            expected: pair(words[at + 3], words[at + 4]),
+            start,
+            end,
+        })
     }
-}
 
-// The case at word `at`.
-fn case_at(bytes: &[u8], words: &[u32], at: usize) -> Found {
-    if 900000 < at {
-        return Found::Ends;
+    // What the check says, `bytes` being those of all words.
+    fn check(self, bytes: &[u8]) -> u64
+        requires { self.start < 1000000 }
+    {
+        match self.kind {
+            Kind::Image => answer(image::check_image(self.image)),
+            Kind::Query => answer(image::check_query(self.image, self.query)),
+            Kind::Long => match self.image.first() {
+                Some(beyond) => check_long(*beyond),
+                None => 1,
+            },
+            Kind::Bytes(less) => {
+                let from = 4 * self.start;
+                let whole = self.image.len() % 1000000 * 4;
+                if whole < less {
+                    return 1;
+                }
+                check_bytes(bytes, from, from + whole - less)
+            }
+        }
     }
-    if words.len() < at + 5 {
-        return Found::Ends;
-    }
-    let kind = words[at];
-    let start = at + 5;
-    let mid = start + (words[at + 1] % 1000000) as usize;
-    let end = mid + (words[at + 2] % 1000000) as usize;
-    if words.len() < end {
-        return Found::Ends;
-    }
-    let got = check_case(kind, bytes, &words[start..mid], &words[mid..end], start);
-    if got == pair(words[at + 3], words[at + 4]) {
-        return Found::Agrees(end);
-    }
-    Found::Differs(end)
 }
 
 fn run_cases(rt: &impl Print, bytes: &[u8], words: &[u32]) -> io::Result<()> {
     let mut at: usize = 0;
-    let mut agree: u64 = 0;
-    let mut turns: u64 = 100000;
-    while 0 < turns {
-        match case_at(bytes, words, at) {
-            Found::Agrees(next) => {
-                at = next;
-                agree = (agree + 1) % 100000;
-            }
-            Found::Differs(next) => {
-                println!(rt; "{at} is the word of a case that differs")?;
-                at = next;
-            }
-            Found::Ends => {
-                println!(rt; "{agree} cases agree")?;
-                return Ok(());
-            }
+    let mut agree: u32 = 0;
+    for _ in 0..100000u32 {
+        let Some(case) = Case::at(words, at) else {
+            return println!(rt; "{agree} cases agree");
+        };
+        if case.check(bytes) == case.expected {
+            agree += 1;
+        } else {
+            println!(rt; "{at} is the word of a case that differs")?;
         }
-        turns -= 1;
+        at = case.end;
     }
     Ok(())
 }

@@ -1,15 +1,5 @@
 -- A number's digits, one more at a time and how many they are; and bytes stored one after another. Assumes nothing.
-use mathlib.Core.Path.{◌≡◌, refl, sym, ap, ap₂, ◌∙◌}
-use mathlib.Core.Bool.{Bool, true, false}
-use mathlib.Core.List.{List, [], ◌∷◌, ◌++◌}
-use Prim.Native.Nat.{ℕ, zero, suc, ◌+◌, ◌/◌, ◌%◌, ◌^◌, ◌≤◌, ◌<◌}
-use native.Mathlib.Nat.{add-zero, pow-suc}
-use native.Mathlib.Omega.{arith}
-use lib.Dec.{ltb}
-use lib.ListN.{length, get_or, set, drop, length-append, drop_of_length-le}
-use lib.Seq.{drop-cons}
-use native.Mathlib.Numerals.{add-one}
-use borrow.Author.Tests.{lt-ltb, le-ltb, ltb-true, ltb-false}
+use Rattle.std.proofs.Common.{◌≡◌, refl, sym, ap, ap₂, ◌∙◌, Bool, true, false, List, [], ◌∷◌, ◌++◌, ℕ, zero, suc, ◌+◌, ◌/◌, ◌%◌, ◌^◌, ◌≤◌, ◌<◌, add-zero, pow-suc, arith, ltb, length, set, drop, length-append, lt-ltb, le-ltb, ltb-true, ltb-false}
 use Rattle.desk_model.specs.Lines.{digits, decimal, written}
 
 -- as many digits as there are, however many are allowed
@@ -68,18 +58,6 @@ unfolding written
 written-front [] room h = refl
 written-front (byte ∷ bytes) [] h = absurd (omega arith)
 written-front (byte ∷ bytes) (first ∷ room) h = written-later bytes 0 byte room ∙ ap (λ (l : List ℕ). byte ∷ l) (written-front bytes room (omega arith))
-
--- the byte at a place, then those behind it
-pub written-turn : (bytes : List ℕ) (at byte : ℕ) (room after : List ℕ) → at < length bytes → byte ≡ get_or bytes at 0 → after ≡ set room at byte
-    → written (at + 1) (drop (at + 1) bytes) after ≡ written at (drop at bytes) room
-unfolding written
-written-turn bytes at byte room after h e s =
-    ap (written (at + 1) (drop (at + 1) bytes)) (s ∙ ap (set room at) e) ∙ ap (λ (n : ℕ). written (at + 1) (drop n bytes) (set room at (get_or bytes at 0))) (add-one at)
-    ∙ ap (λ (l : List ℕ). written at l room) (sym (drop-cons bytes at 0 h))
-
-pub written_none : (bytes : List ℕ) (at : ℕ) (room : List ℕ) → length bytes ≤ at → room ≡ written at (drop at bytes) room
-unfolding written
-written_none bytes at room h = ap (λ (l : List ℕ). written at l room) (sym (drop_of_length-le bytes {i = at} h))
 
 -- where the next byte stands and what the room holds, after bytes stored from a place on
 abbrev pub Stored : ℕ → List ℕ → List ℕ → ℕ → List ℕ → Type 0

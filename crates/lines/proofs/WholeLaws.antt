@@ -1,14 +1,6 @@
 -- The pieces of a line stored one behind another make the line; how long a line is at most; and a line at the front of a room. Assumes nothing.
-use mathlib.Core.Path.{◌≡◌, refl, sym, ap, ap₂, ◌∙◌}
-use mathlib.Core.Bool.{Bool, true, false, ◌&&◌}
-use mathlib.Core.List.{List, [], ◌∷◌, ◌++◌}
-use Prim.Native.Nat.{ℕ, ◌+◌, ◌*◌, ◌≤◌, ◌<◌}
-use native.Mathlib.Numerals.{add-one}
-use native.Mathlib.Omega.{arith}
-use lib.Dec.{eqb}
-use lib.ListN.{length, get_or, set, drop, length-append, drop_of_length-le}
-use lib.Seq.{drop-cons}
-use borrow.Author.Tests.{eq-eqb, ne_eqb, le-leb, lt-leb}
+use Rattle.std.proofs.Common.{◌≡◌, refl, sym, ap, ap₂, ◌∙◌, None, Some, Bool, true, false, ◌&&◌, List, [], ◌∷◌, ◌++◌, ℕ, ◌+◌, ◌*◌, ◌≤◌, ◌<◌, add-one, arith, eqb, length, get_or, set, drop, length-append, drop_of_length-le, drop-cons, eq-eqb, ne_eqb, le-leb}
+use borrow.Author.Tests.{lt-leb}
 use Rattle.model.specs.declared.Kind.TheVariants.{Con, Var}
 use Rattle.model.specs.Fields.{widths_of, op, constant, variable_number}
 use Rattle.words.proofs.FieldLaws.{field_lt}
@@ -91,14 +83,14 @@ values-end words i line start after h e = rw (drop_of_length-le words {i = i} h,
 
 -- a line that fits stands at the front of the room
 pub line-whole : (fits : Bool) (line room : List ℕ) (end : ℕ) (after : List ℕ) → fits ≡ true → length line ≤ 1024 → 1024 ≤ length room → Stored 0 line room end after
-    → (wrote end after ≡ line_in fits line room) × (end ≤ 1024)
+    → (wrote (Some end) after ≡ line_in fits line room) × (end ≤ 1024)
 line-whole fits line room end after f h l s = (
-  rw f (ap₂ wrote (s.1 ∙ omega arith) (s.0 ∙ written-front line room (omega arith))),
+  rw f (ap₂ (λ (n : ℕ). wrote (Some n)) (s.1 ∙ omega arith) (s.0 ∙ written-front line room (omega arith))),
   omega (arith, s.1),
 )
 
-pub line-none : (fits : Bool) (line room : List ℕ) → fits ≡ false → (wrote 0 room ≡ line_in fits line room) × (0 ≤ 1024)
-line-none fits line room f = (rw f refl, omega arith)
+pub line-none : (fits : Bool) (line room : List ℕ) → fits ≡ false → (wrote None room ≡ line_in fits line room) × Unit {0}
+line-none fits line room f = (rw f refl, tt)
 
 pub is-roomy : (room : List ℕ) → 1024 ≤ length room → roomy room ≡ true
 is-roomy room h = le-leb 1024 (length room) h

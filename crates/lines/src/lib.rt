@@ -1,8 +1,8 @@
 // The lines of the desk program's listing: document 01, "The desk program". Each public function writes one line at the front of a room of at least 1,024 bytes,
-// leaves the bytes past it, and answers how long the line is; in less room it writes nothing and answers 0.
+// leaves the bytes past it, and answers how long the line is; in less room it writes nothing and answers None.
 #![tactic(auto)]
 
-ghost use Rattle.std.specs.Prelude.{◌≡◌, ◌&&◌, ◌+◌, ◌*◌, ◌≤◌, ◌<◌, length, set};
+ghost use Rattle.std.specs.Prelude.{◌≡◌, ◌&&◌, ◌+◌, ◌*◌, ◌≤◌, ◌<◌, length, set, IfSome};
 ghost use Rattle.desk_model.specs.Lines.{decimal, spaced, value_text, value_texts, answer_line, ending_name, ending_line, refused_line, written, wrote, line_in, roomy, few_values};
 
 use desk_model::Ending;
@@ -38,14 +38,11 @@ fn spaced(line: &mut [u8], at: usize, n: usize) -> usize
 }
 
 fn text(line: &mut [u8], bytes: &[u8]) -> usize
+    requires { length bytes.now ≤ length line.old }
     ensures { (line.new ≡ written 0 bytes.now line.old) × (result ≡ length bytes.now) }
 {
-    let mut at: usize = 0;
-    while at < bytes.len() {
-        put(line, at, bytes[at]);
-        at += 1;
-    }
-    at
+    line[..bytes.len()].copy_from_slice(bytes);
+    bytes.len()
 }
 
 // A word of an answer, as ` cN` or ` vN`.
@@ -68,30 +65,30 @@ fn value_texts(line: &mut [u8], at: usize, words: &[u32]) -> usize
     ensures { (line.new ≡ written at (value_texts words.now) line.old) × (result ≡ at + length (value_texts words.now)) }
 {
     let mut end = at;
-    let mut i: usize = 0;
-    while i < words.len() {
-        end = value_text(line, end, words[i]);
-        i += 1;
+    for word in words {
+        end = value_text(line, end, *word);
     }
     put(line, end, b'\n');
     end + 1
 }
 
 // An answer's line, for at most 64 values.
-pub fn answer_line(line: &mut [u8], steps: u32, words: &[u32]) -> usize
-    ensures { (wrote result line.new ≡ line_in (roomy line.old && few_values words.now) (answer_line steps words.now) line.old) × (result ≤ 1024) }
+pub fn answer_line(line: &mut [u8], steps: u32, words: &[u32]) -> Option<usize>
+    ensures { (wrote result line.new ≡ line_in (roomy line.old && few_values words.now) (answer_line steps words.now) line.old) × (IfSome result (λ size. size ≤ 1024)) }
 {
     if line.len() < 1024 {
-        return 0;
+        return None;
     }
     if 64 < words.len() {
-        return 0;
+        return None;
     }
     let at = decimal(line, 0, steps as usize);
-    value_texts(line, at, words)
+    Some(value_texts(line, at, words))
 }
 
+#[tactic(auto, unfolding(desk_model::specs::Lines::ending_name))]
 fn ending_name(line: &mut [u8], ending: Ending) -> usize
+    requires { 8 ≤ length line.old }
     ensures { (line.new ≡ written 0 (ending_name ending) line.old) × (result ≡ length (ending_name ending)) }
 {
     match ending {
@@ -102,28 +99,28 @@ fn ending_name(line: &mut [u8], ending: Ending) -> usize
 }
 
 // The last line of a search.
-pub fn ending_line(line: &mut [u8], ending: Ending, steps: u32) -> usize
-    ensures { (wrote result line.new ≡ line_in (roomy line.old) (ending_line ending steps) line.old) × (result ≤ 1024) }
+pub fn ending_line(line: &mut [u8], ending: Ending, steps: u32) -> Option<usize>
+    ensures { (wrote result line.new ≡ line_in (roomy line.old) (ending_line ending steps) line.old) × (IfSome result (λ size. size ≤ 1024)) }
 {
     if line.len() < 1024 {
-        return 0;
+        return None;
     }
     let at = ending_name(line, ending);
     let end = spaced(line, at, steps as usize);
     put(line, end, b'\n');
-    end + 1
+    Some(end + 1)
 }
 
 // The only line where there is no search.
-pub fn refused_line(line: &mut [u8], number: u32, position: usize) -> usize
-    ensures { (wrote result line.new ≡ line_in (roomy line.old) (refused_line number position) line.old) × (result ≤ 1024) }
+pub fn refused_line(line: &mut [u8], number: u32, position: usize) -> Option<usize>
+    ensures { (wrote result line.new ≡ line_in (roomy line.old) (refused_line number position) line.old) × (IfSome result (λ size. size ≤ 1024)) }
 {
     if line.len() < 1024 {
-        return 0;
+        return None;
     }
     let at = text(line, b"refused");
     let middle = spaced(line, at, number as usize);
     let end = spaced(line, middle, position);
     put(line, end, b'\n');
-    end + 1
+    Some(end + 1)
 }

@@ -1,12 +1,6 @@
 -- Worker 0's next stop and the line for it, from what the engine's run, the reading of an answer and the writing of a line promise. Document 01, "The desk program".
 -- Assumes nothing.
-use mathlib.Core.Path.{◌≡◌, sym, ap, ◌∙◌}
-use mathlib.Core.Bool.{true, ◌&&◌}
-use mathlib.Core.List.{List, [], ◌++◌}
-use Prim.Native.Nat.{ℕ, zero, suc, ◌+◌, ◌-◌, ◌≤◌, ◌<◌}
-use native.Mathlib.Omega.{arith}
-use lib.ListN.{length, get_or, take, drop}
-use lib.Seq.{take_at}
+use Rattle.std.proofs.Common.{◌≡◌, sym, ap, ◌∙◌, Some, true, ◌&&◌, List, [], ◌++◌, ℕ, zero, suc, ◌+◌, ◌-◌, ◌≤◌, ◌<◌, arith, length, get_or, take, drop, take_at}
 use Rattle.model.specs.declared.Outcome.{Outcome}
 use Rattle.model.specs.declared.Outcome.TheVariants.{Tried, Extended, Answer as AnswerMade, Back, Left, Wait, Finished, Spent, Full}
 use Rattle.model.specs.Fields.{variables}
@@ -73,8 +67,8 @@ module _ (query : List ℕ) (m : Memory) (count : ℕ) (room after : List ℕ) (
   read-words = ap (take count) read.0 ∙ take_at (answer query m 0) (drop count room) count (sym read.1)
 
   pub answer-told : (steps size : ℕ) (line end : List ℕ) → 1024 ≤ length line
-      → wrote size end ≡ line_in (roomy line && few_values (take count after)) (answer_line steps (take count after)) line
-      → wrote size end ≡ line_in true (stop_line Answer query m steps) line
+      → wrote (Some size) end ≡ line_in (roomy line && few_values (take count after)) (answer_line steps (take count after)) line
+      → wrote (Some size) end ≡ line_in true (stop_line Answer query m steps) line
   unfolding stop_line
   answer-told steps size line end h e =
       e ∙ ap (λ (l : List ℕ). line_in (roomy line && few_values l) (answer_line steps l) line) read-words
@@ -82,11 +76,11 @@ module _ (query : List ℕ) (m : Memory) (count : ℕ) (room after : List ℕ) (
 
 -- the line, by what the stop is
 module _ (stop : Stop) (query : List ℕ) (m : Memory) (steps size : ℕ) (line end : List ℕ) where
-  pub stop-answer : stop ≡ Answer → wrote size end ≡ line_in true (stop_line Answer query m steps) line → wrote size end ≡ line_in true (stop_line stop query m steps) line
+  pub stop-answer : stop ≡ Answer → wrote (Some size) end ≡ line_in true (stop_line Answer query m steps) line → wrote (Some size) end ≡ line_in true (stop_line stop query m steps) line
   stop-answer e h = h ∙ ap (λ (s : Stop). line_in true (stop_line s query m steps) line) (sym e)
 
-  pub stop-ended : (ending : Ending) → stop ≡ Ended ending → 1024 ≤ length line → wrote size end ≡ line_in (roomy line) (ending_line ending steps) line
-      → wrote size end ≡ line_in true (stop_line stop query m steps) line
+  pub stop-ended : (ending : Ending) → stop ≡ Ended ending → 1024 ≤ length line → wrote (Some size) end ≡ line_in (roomy line) (ending_line ending steps) line
+      → wrote (Some size) end ≡ line_in true (stop_line stop query m steps) line
   unfolding stop_line
   stop-ended ending e l h =
       h ∙ ap (λ b. line_in b (ending_line ending steps) line) (is-roomy line l) ∙ ap (λ (s : Stop). line_in true (stop_line s query m steps) line) (sym e)

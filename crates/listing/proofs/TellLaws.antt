@@ -1,11 +1,6 @@
 -- The next line's call, by its tests. Document 01, "The desk program". Assumes nothing.
-use mathlib.Core.Path.{◌≡◌, refl, ap, ◌∙◌}
-use mathlib.Core.Bool.{true}
-use mathlib.Core.List.{List}
-use Prim.Native.Nat.{ℕ, ◌≤◌, ◌<◌}
-use native.Mathlib.Omega.{arith}
-use lib.ListN.{length}
-use borrow.Author.Tests.{eq-eqb, ne_eqb, le-leb, lt-leb}
+use Rattle.std.proofs.Common.{◌≡◌, refl, ap, ◌∙◌, Some, unwrap_or, true, List, ℕ, ◌≤◌, ◌<◌, arith, length, eq-eqb, ne_eqb, le-leb}
+use borrow.Author.Tests.{lt-leb}
 use Rattle.model.specs.Memory.{Memory}
 use Rattle.desk_model.specs.declared.Stop.{Stop}
 use Rattle.desk_model.specs.declared.Stop.TheVariants.{Answer, Ended}
@@ -24,12 +19,12 @@ module _ (image query : List ℕ) (m : Memory) (steps : ℕ) (room : List ℕ) w
   next-no-room h l = (simp (eq-eqb (length m.arrays) 8192 h, lt-leb 1024 (length room) l), omega arith)
 
   pub next-told : (stop : Stop) (so_far : ℕ) (after : Memory) (size : ℕ) (end : List ℕ) (answer : Line) → length m.arrays ≡ 8192 → 1024 ≤ length room
-      → advanced_to stop so_far after ≡ advanced image query m steps → wrote size end ≡ line_in true (stop_line stop query after so_far) room → size ≤ 1024
+      → advanced_to stop so_far after ≡ advanced image query m steps → wrote (Some size) end ≡ line_in true (stop_line stop query after so_far) room → size ≤ 1024
       → answer ≡ line_answer stop size so_far → (told answer after end ≡ next_call image query m steps room) × (line_size answer ≤ 1024)
   unfolding next_call
   next-told stop so_far after size end answer h l did wrote_it small is = (
     simp (eq-eqb (length m.arrays) 8192 h, le-leb 1024 (length room) l)
-        (ap (λ (a : Line). told a after end) is ∙ ap (λ (w : Wrote). told (line_answer stop w.size so_far) after w.room) wrote_it
+        (ap (λ (a : Line). told a after end) is ∙ ap (λ (w : Wrote). told (line_answer stop (unwrap_or w.size 0) so_far) after w.room) wrote_it
         ∙ ap (λ (a : Advanced). tell_line a (stop_line a.stop query a.after a.steps) room) did),
     omega (arith, small, ap line_size is ∙ same stop),
   )

@@ -17,13 +17,12 @@ use Rattle.desk_model.specs.declared.Stop.{Stop}
 use Rattle.desk_model.specs.declared.Stop.TheVariants.{Answer, Ended}
 use Rattle.desk_model.specs.declared.Line.{Line}
 use Rattle.desk_model.specs.declared.Line.TheVariants.{NoRoom, More, Last}
-use Rattle.desk_model.specs.declared.FileParts.{FileParts}
-use Rattle.desk_model.specs.declared.FileParts.TheVariants.{Unfit, Fit}
+use Rattle.std.specs.Prelude.{None, Some}
 use Rattle.desk_model.specs.declared.Opened.{Opened}
 use Rattle.desk_model.specs.declared.Opened.TheVariants.{NoRoom as NoRoomToOpen, Refused as RefusedFile, Ready}
 use Rattle.desk_model.specs.Lines.{refused_line}
 use Rattle.desk_file.proofs.FileLaws.{parts_within}
-use Rattle.desk_model.specs.Desk.{file_parts, query_of, image_of, laid_by, lay_call, search_listing, parts_listing, listing, Begun, begun_by, begun_from, begun_as, open_call, advanced, stop_line, go_on, lines_from, Told, line_answer, line_size, next_call}
+use Rattle.desk_model.specs.Desk.{FileParts, file_parts, query_of, image_of, laid_by, lay_call, search_listing, parts_listing, listing, Begun, begun_by, begun_from, begun_as, open_call, advanced, stop_line, go_on, lines_from, Told, line_answer, line_size, next_call}
 
 -- what is printed after a line, by the call's answer
 abbrev pub rest_after : (ℕ → List ℕ) → Line → List ℕ
@@ -95,8 +94,8 @@ listing-opened bytes words m room right h l =
     go : (parts : FileParts) → parts ≡ file_parts bytes
         → parts_listing parts (words_of_bytes bytes)
         ≡ begun_listing (begun_as (laid_by parts (words_of_bytes bytes) words).parts (laid_by parts (words_of_bytes bytes) words).words m room)
-    go Unfit q = sym (take-append_seam (refused_line 28 0) (drop (length (refused_line 28 0)) room))
-    go (Fit size count) q =
+    go None q = sym (take-append_seam (refused_line 28 0) (drop (length (refused_line 28 0)) room))
+    go (Some (size, count)) q =
         let w = parts_within bytes size count q in
         let long : length (words_of_bytes bytes) ≡ count = length-words_from bytes (length bytes / 4) 0 ∙ sym w.all in
         let laid_out = words_of_bytes bytes ++ drop count words in

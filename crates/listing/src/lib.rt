@@ -2,14 +2,14 @@
 // `next_line` then runs worker 0 to its next stop and writes the line for it. Both work in what they are lent, so a listing of any length needs no more room.
 #![tactic(auto)]
 
-ghost use Rattle.std.specs.Prelude.{◌≡◌, true, List, ℕ, ◌+◌, ◌-◌, ◌≤◌, length, take, drop};
+ghost use Rattle.std.specs.Prelude.{◌≡◌, true, Some, List, ℕ, ◌+◌, ◌-◌, ◌≤◌, length, take, drop};
 ghost use Rattle.model.specs.Memory.{memory};
 ghost use Rattle.model.specs.Calls.{load_call};
 ghost use Rattle.desk_model.specs.Lines.{wrote, line_in};
 ghost use Rattle.desk_model.specs.Desk.{stop_of, advanced_to, advanced, stop_line, line_answer, line_size, told, next_call, begun, begun_from, open_call};
 ghost use Rattle.listing.specs.Fits.{Fits};
 
-use desk_model::{Ending, FileParts, Line, Opened, Stop};
+use desk_model::{Ending, Line, Opened, Stop};
 use model::{Outcome, Verdict};
 
 // Where worker 0 stopped, and the steps so far.
@@ -19,19 +19,20 @@ struct StopReached {
     steps: u32,
 }
 
+#[tactic(auto, unfolding(desk_model::specs::Desk::stop_of))]
 fn stop_of(outcome: Outcome) -> Stop
     ensures { result ≡ stop_of outcome }
 {
     match outcome {
-        Outcome::Tried => Stop::Ended(Ending::Spent),
-        Outcome::Extended => Stop::Ended(Ending::Spent),
         Outcome::Answer => Stop::Answer,
-        Outcome::Back => Stop::Ended(Ending::Spent),
-        Outcome::Left => Stop::Ended(Ending::Spent),
-        Outcome::Wait => Stop::Ended(Ending::Spent),
         Outcome::Finished => Stop::Ended(Ending::Finished),
-        Outcome::Spent => Stop::Ended(Ending::Spent),
         Outcome::Full => Stop::Ended(Ending::Full),
+        Outcome::Tried
+        | Outcome::Extended
+        | Outcome::Back
+        | Outcome::Left
+        | Outcome::Wait
+        | Outcome::Spent => Stop::Ended(Ending::Spent),
     }
 }
 
@@ -39,10 +40,7 @@ fn stop_of(outcome: Outcome) -> Stop
 fn budget(steps: u32) -> u32
     ensures { result ≡ 65535 - steps }
 {
-    if 65535 < steps {
-        return 0;
-    }
-    65535 - steps
+    65535u32.saturating_sub(steps)
 }
 
 // Worker 0 runs to its next stop.
@@ -76,7 +74,7 @@ fn advance<'a>(
     let count = ended.count;
     let stop = stop_of(outcome);
     StopReached {
-        stop: stop,
+        stop,
         steps: steps + count,
     }
 }
@@ -84,11 +82,11 @@ fn advance<'a>(
 // The line of an answer of worker 0. The promise holds whatever nodes, trail and workers are: reading does not look at them.
 fn answer_line(query: &[u32], cells: &[u32], arrays: &[u32], steps: u32, line: &mut [u8]) -> usize
     requires { (length arrays.now ≡ 8192) × (1024 ≤ length line.old) }
-    ensures { ((nodes trail workers : List ℕ) → wrote result line.new ≡ line_in true (stop_line Stop.Answer query.now (memory nodes cells.now trail arrays.now workers) steps) line.old) × (result ≤ 1024) }
+    ensures { ((nodes trail workers : List ℕ) → wrote (Some result) line.new ≡ line_in true (stop_line Stop.Answer query.now (memory nodes cells.now trail arrays.now workers) steps) line.old) × (result ≤ 1024) }
 {
     let mut room = [0u32; 64];
     let count = moves::read_answer(query, cells, arrays, 0, &mut room);
-    lines::answer_line(line, steps, &room[..count])
+    lines::answer_line(line, steps, &room[..count]).unwrap()
 }
 
 // The line for a stop.
@@ -101,11 +99,11 @@ fn stop_line(
     line: &mut [u8],
 ) -> usize
     requires { (length arrays.now ≡ 8192) × (1024 ≤ length line.old) }
-    ensures { ((nodes trail workers : List ℕ) → wrote result line.new ≡ line_in true (stop_line stop query.now (memory nodes cells.now trail arrays.now workers) steps) line.old) × (result ≤ 1024) }
+    ensures { ((nodes trail workers : List ℕ) → wrote (Some result) line.new ≡ line_in true (stop_line stop query.now (memory nodes cells.now trail arrays.now workers) steps) line.old) × (result ≤ 1024) }
 {
     match stop {
         Stop::Answer => answer_line(query, cells, arrays, steps, line),
-        Stop::Ended(ending) => lines::ending_line(line, ending, steps),
+        Stop::Ended(ending) => lines::ending_line(line, ending, steps).unwrap(),
     }
 }
 
@@ -170,11 +168,10 @@ fn begin_parts(
         arrays,
         workers,
     ) {
-        Verdict::Refused(refusal, at) => Opened::Refused(lines::refused_line(
-            line,
-            numbers::refusal_number(refusal),
-            at,
-        )),
+        Verdict::Refused(refusal, at) => {
+            let number = numbers::refusal_number(refusal);
+            Opened::Refused(lines::refused_line(line, number, at).unwrap())
+        }
         Verdict::Legal => Opened::Ready(size, count),
     }
 }
@@ -199,8 +196,8 @@ pub fn open(
         return Opened::NoRoom;
     }
     match desk_file::lay_file(bytes, words) {
-        FileParts::Unfit => Opened::Refused(lines::refused_line(line, 28, 0)),
-        FileParts::Fit(size, count) => begin_parts(
+        None => Opened::Refused(lines::refused_line(line, 28, 0).unwrap()),
+        Some((size, count)) => begin_parts(
             words, size, count, nodes, cells, trail, arrays, workers, line,
         ),
     }

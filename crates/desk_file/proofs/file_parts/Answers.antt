@@ -1,6 +1,6 @@
 -- `desk_file::file_parts` meets its contract. Assumes nothing.
 use Rattle.desk_file.proofs.FileLaws.{parts-empty, parts-broken, parts-long-query, parts-short, parts-long-image, parts-fit}
-use native.Mathlib.Omega.{arith}
+use Rattle.std.proofs.Common.{arith}
 use Rattle.desk_file.proofs.file_parts.Goals as goal
 
 pub returns-then-length-eq0 : goal.returns-then-length-eq0

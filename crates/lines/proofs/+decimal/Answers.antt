@@ -1,6 +1,5 @@
 -- `lines::decimal` meets its contract. Assumes nothing.
-use Prim.Native.Nat.{◌/◌}
-use native.Mathlib.Omega.{arith}
+use Rattle.std.proofs.Common.{◌/◌, arith}
 use Rattle.lines.proofs.LineLaws.{decimal-long, decimal_digit, decimal-last}
 use Rattle.lines.proofs.+decimal.Goals as goal
 

@@ -1,9 +1,8 @@
 -- `lines::answer_line` meets its contract. Assumes nothing.
-use mathlib.Core.Bool.{◌&&◌}
+use Rattle.std.proofs.Common.{◌&&◌, arith}
 use Rattle.lines.proofs.WholeLaws.{line-none, line-whole, answer-no-room, answer-too-many, answer-fits, answer-short, answer-of}
 use Rattle.lines.proofs.LineLaws.{decimal-short}
 use Rattle.desk_model.specs.Lines.{answer_line, roomy, few_values}
-use native.Mathlib.Omega.{arith}
 use Rattle.lines.proofs.answer_line.Goals as goal
 
 pub returns-then-line-lt1024 : goal.returns-then-line-lt1024

@@ -1,7 +1,7 @@
 -- `lines::ending_line` meets its contract. Assumes nothing.
 use Rattle.lines.proofs.WholeLaws.{is-roomy, not-roomy, line-none, line-whole, name-short, spaced-short, ending-short, ending_of}
 use Rattle.desk_model.specs.Lines.{ending_line, roomy}
-use native.Mathlib.Omega.{arith}
+use Rattle.std.proofs.Common.{arith}
 use Rattle.lines.proofs.ending_line.Goals as goal
 
 pub returns-then-line-lt1024 : goal.returns-then-line-lt1024

@@ -1,7 +1,7 @@
 -- `lines::refused_line` meets its contract. Assumes nothing.
 use Rattle.lines.proofs.WholeLaws.{is-roomy, not-roomy, line-none, line-whole, spaced-short, refused-short, refused-of}
 use Rattle.desk_model.specs.Lines.{refused_line, refused_name, roomy}
-use native.Mathlib.Omega.{arith}
+use Rattle.std.proofs.Common.{arith}
 use Rattle.lines.proofs.refused_line.Goals as goal
 
 pub returns-then-line-lt1024 : goal.returns-then-line-lt1024

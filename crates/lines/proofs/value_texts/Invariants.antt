@@ -1,13 +1,9 @@
--- `lines::value_texts` meets its contract. Assumes nothing.
-use mathlib.Core.Path.{◌≡◌}
-use Prim.Native.Nat.{◌+◌, ◌-◌, ◌*◌, ◌≤◌}
-use lib.ListN.{length, drop}
-use Rattle.desk_model.specs.Lines.{written, value_texts}
+-- What is written so far, and then the words to come, gives the whole. Assumes nothing.
+use Rattle.std.proofs.Common.{◌≡◌, ◌+◌, ◌*◌, ◌≤◌, length, drop}
+use Rattle.desk_model.specs.Lines.{value_texts, written}
 use Rattle.lines.proofs.value_texts.Given as goal
 
-abbrev pub invariant-loop-i : goal.invariant-loop-i
-invariant-loop-i l = (l.i ≤ length l.words) × (l.end ≤ l.at + 11 * l.i) × (length l.line ≡ length l.initial.line)
-    × (written l.end (value_texts (drop l.i l.words)) l.line ≡ written l.at (value_texts l.words) l.initial.line) × (l.end + length (value_texts (drop l.i l.words)) ≡ l.at + length (value_texts l.words))
-
-abbrev pub decreases-loop-i : goal.decreases-loop-i
-decreases-loop-i l = length l.words - l.i
+abbrev pub invariant-loop-word : goal.invariant-loop-word
+invariant-loop-word l =
+    (l.end ≤ 10 + 11 * l.word-index) × (length l.line ≡ length l.initial.line) × (written l.end (value_texts (drop l.word-index l.words)) l.line ≡ written l.initial.end (value_texts l.words) l.initial.line)
+    × (l.end + length (value_texts (drop l.word-index l.words)) ≡ l.initial.end + length (value_texts l.words))

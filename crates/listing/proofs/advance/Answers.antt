@@ -1,7 +1,6 @@
 -- `listing::advance` meets its contract. Assumes nothing.
-use lib.ListN.{length-take}
+use Rattle.std.proofs.Common.{length-take, arith}
 use Rattle.listing.proofs.StopLaws.{steps-fit, advanced-from}
-use native.Mathlib.Omega.{arith}
 use Rattle.listing.proofs.advance.Goals as goal
 
 pub slice_bounds-run-end-2 : goal.slice_bounds-run-end-2

@@ -1,13 +1,9 @@
 -- `listing::answer_line` meets its contract. Assumes nothing.
-use mathlib.Core.Path.{sym}
-use mathlib.Core.List.{[]}
-use Prim.Native.Nat.{ℕ}
-use lib.ListN.{get_or, length-replicate}
-use lib.Seq.{length-take-le}
+use Rattle.std.proofs.Common.{sym, [], ℕ, get_or, length-take-le, arith}
+use lib.ListN.{length-replicate}
 use Rattle.model.specs.Memory.{memory}
 use Rattle.memory.proofs.FieldBounds.{variables-lt}
 use Rattle.listing.proofs.StopLaws.{read-few, answer-told}
-use native.Mathlib.Omega.{arith}
 use Rattle.listing.proofs.answer_line.Goals as goal
 
 pub read_answer-count-requires : goal.read_answer-count-requires
@@ -22,6 +18,6 @@ slice_bounds-answer_line-end c = let a = c.args in sym (length-take-le c.read_an
 pub returns : goal.returns
 returns c = let a = c.args in (
   λ nodes trail workers.
-      answer-told a.query.now (memory nodes a.cells.now trail a.arrays.now workers) _ _ _ (c.read_answer-count.ensures nodes trail workers) a.steps _ a.line.now _ c.requires.1 c.answer_line.ensures.0,
-  c.answer_line.ensures.1,
+      answer-told a.query.now (memory nodes a.cells.now trail a.arrays.now workers) _ _ _ (c.read_answer-count.ensures nodes trail workers) a.steps _ a.line.now _ c.requires.1 (rw c.unwrap.ensures at c.answer_line.ensures.0),
+  rw c.unwrap.ensures at c.answer_line.ensures.1,
 )

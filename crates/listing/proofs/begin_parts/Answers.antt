@@ -7,7 +7,7 @@ use Rattle.listing.proofs.begin_parts.Goals as goal
 pub returns-in-Refused : goal.returns-in-Refused
 unfolding Fits
 returns-in-Refused c = let a = c.args in
-    (begun-refused a.size a.count a.words.now (memory a.nodes.now a.cells.now a.trail.now a.arrays.now a.workers.now) a.line.now _ _ c.load.ensures c.in-Refused.refusal c.in-Refused.at _ _ _ c.in-Refused.is c.refusal_number.ensures c.requires.3 c.refused_line.ensures.0, c.refused_line.ensures.1)
+    (begun-refused a.size a.count a.words.now (memory a.nodes.now a.cells.now a.trail.now a.arrays.now a.workers.now) a.line.now _ _ c.load.ensures c.in-Refused.refusal c.in-Refused.at _ _ _ c.in-Refused.is c.refusal_number-number.ensures c.requires.3 (rw c.unwrap.ensures at c.refused_line.ensures.0), rw c.unwrap.ensures at c.refused_line.ensures.1)
 
 pub returns-in-Legal : goal.returns-in-Legal
 unfolding Fits

@@ -1,7 +1,7 @@
 -- `listing::next_line` meets its contract. Assumes nothing.
 use Rattle.model.specs.Memory.{memory}
 use Rattle.listing.proofs.TellLaws.{next-no-arrays, next-no-room, next-told}
-use native.Mathlib.Omega.{arith}
+use Rattle.std.proofs.Common.{arith}
 use Rattle.listing.proofs.next_line.Goals as goal
 
 pub returns-then-arrays-ne8192 : goal.returns-then-arrays-ne8192

@@ -13,6 +13,6 @@ returns-in-Answer c = let a = c.args in (
 pub returns-in-Ended : goal.returns-in-Ended
 returns-in-Ended c = let a = c.args in (
   λ nodes trail workers.
-      stop-ended a.stop a.query.now (memory nodes a.cells.now trail a.arrays.now workers) a.steps _ a.line.now _ _ c.in-Ended.is c.requires.1 c.ending_line.ensures.0,
-  c.ending_line.ensures.1,
+      stop-ended a.stop a.query.now (memory nodes a.cells.now trail a.arrays.now workers) a.steps _ a.line.now _ _ c.in-Ended.is c.requires.1 (rw c.unwrap.ensures at c.ending_line.ensures.0),
+  rw c.unwrap.ensures at c.ending_line.ensures.1,
 )
