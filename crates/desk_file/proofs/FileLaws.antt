@@ -4,14 +4,6 @@ use borrow.Author.Tests.{lt-leb}
 use Rattle.model.specs.Bytes.{word_of_bytes, words_from, words_of_bytes}
 use Rattle.desk_model.specs.Desk.{FileParts, fit, file_parts, laid, laid_by, lay_call}
 
--- what is stored at a place leaves what stands behind it
-pub drop-store : (words room : List ℕ) (k word : ℕ) → drop k words ≡ drop k room → drop (k + 1) (set words k word) ≡ drop (k + 1) room
-drop-store words room k word e =
-    drop-set-lt (k + 1) words k word (omega arith) ∙ sym (drop-drop 1 k words) ∙ ap (λ (l : List ℕ). drop 1 l) e ∙ drop-drop 1 k room
-
-pub laid-words : (bytes words room : List ℕ) (k : ℕ) → take k words ≡ words_from bytes k 0 → drop k words ≡ drop k room → words ≡ words_from bytes k 0 ++ drop k room
-laid-words bytes words room k t d = sym (take-append-drop k words) ∙ ap₂ (λ (a b : List ℕ). a ++ b) t d
-
 -- the tests of a file, in their order
 module _ (bytes : List ℕ) where
   pub parts-empty : length bytes ≡ 0 → None ≡ file_parts bytes

@@ -6,7 +6,7 @@
 
 ghost use Rattle.std.specs.Prelude.{◌≡◌, ◌+◌, ◌*◌, ◌≤◌, ◌<◌, length, IfSome};
 
-use model::Verdict;
+use model::{Refused, Verdict};
 use std::{fs, io};
 
 #[derive(Clone, Copy)]
@@ -58,8 +58,8 @@ fn pair(number: u32, position: u32) -> u64 {
 
 fn answer(verdict: Verdict) -> u64 {
     match verdict {
-        Verdict::Legal => 0,
-        Verdict::Refused(refusal, at) => numbers::refusal_number(refusal) as u64 * 4294967296
+        Ok(()) => 0,
+        Err(Refused(refusal, at)) => numbers::refusal_number(refusal) as u64 * 4294967296
             + at as u64 % 4294967296,
     }
 }

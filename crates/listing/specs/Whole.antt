@@ -70,7 +70,7 @@ module _ (size count : ℕ) (words : List ℕ) (m : Memory) (room : List ℕ) (r
   unfolding search_listing load_if begun_by
   search-begun (Ok u) = refl
   search-begun (Err stop) =
-      sym (take-append_seam (refused_line (refusal_number refusal) at) (drop (length (refused_line (refusal_number refusal) at)) room))
+      sym (take-append_seam (refused_line (refusal_number stop.0) stop.1) (drop (length (refused_line (refusal_number stop.0) stop.1)) room))
 
   parts-begun : search_listing (check_query image query) image query ≡ begun_listing (begun_from size count words m room)
   unfolding begun_from load_call load_refusal

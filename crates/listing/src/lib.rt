@@ -10,7 +10,7 @@ ghost use Rattle.desk_model.specs.Desk.{stop_of, advanced_to, advanced, stop_lin
 ghost use Rattle.listing.specs.Fits.{Fits};
 
 use desk_model::{Ending, Line, Opened, Stop};
-use model::{Outcome, Verdict};
+use model::{Outcome, Refused};
 
 // Where worker 0 stopped, and the steps so far.
 #[derive(Clone, Copy)]
@@ -168,11 +168,11 @@ fn begin_parts(
         arrays,
         workers,
     ) {
-        Verdict::Refused(refusal, at) => {
+        Err(Refused(refusal, at)) => {
             let number = numbers::refusal_number(refusal);
             Opened::Refused(lines::refused_line(line, number, at).unwrap())
         }
-        Verdict::Legal => Opened::Ready(size, count),
+        Ok(()) => Opened::Ready(size, count),
     }
 }
 

@@ -5,7 +5,7 @@
 ghost use Rattle.std.specs.Prelude.{◌≡◌, ◌+◌, ◌≤◌, ◌<◌, length};
 ghost use Rattle.turns.specs.Hand.{AtHand};
 
-use model::{Outcome, Verdict};
+use model::Outcome;
 use std::env::{Env, FillError};
 use std::rt::Files;
 use std::{fs, io, str};
@@ -193,8 +193,8 @@ fn say(rt: &impl Print, times: u32, total: u64) -> io::Result<()> {
 // The pair is judged once, as a public call judges it before it runs.
 fn checked<'a>(rt: &impl Print, image: &'a [u32], query: &'a [u32], times: u32) -> io::Result<()> {
     match image::check_query(image, query) {
-        Verdict::Legal => say(rt, times, in_fresh_memory(image, query, times)),
-        Verdict::Refused(_, _) => println!(rt; "refused"),
+        Ok(()) => say(rt, times, in_fresh_memory(image, query, times)),
+        Err(_) => println!(rt; "refused"),
     }
 }
 

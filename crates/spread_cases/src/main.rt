@@ -5,7 +5,7 @@
 ghost use Rattle.std.specs.Prelude.{◌≡◌, ◌≤◌, length, IfOk};
 
 use files::{next_word, read_words};
-use model::Written;
+use model::{Refused, Written};
 use std::fs::File;
 use std::{fs, io};
 
@@ -93,8 +93,8 @@ fn holds(room: &[u32], words: &[u32]) -> bool {
 // Number 0 stands for a call that wrote `value` words.
 fn answers(answer: Written, number: u32, value: usize) -> bool {
     match answer {
-        Written::Done(count) => number == 0 && count == value,
-        Written::Refused(refusal, place) => {
+        Ok(count) => number == 0 && count == value,
+        Err(Refused(refusal, place)) => {
             numbers::refusal_number(refusal) == number && place == value
         }
     }
