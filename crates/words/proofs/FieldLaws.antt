@@ -1,7 +1,6 @@
 -- What joining and reading fields have to do with each other, over any list of widths: document 01, "Rule image", "Fields are listed most significant first".
 -- Fields joined into a word are read back from it; the fields of a word, joined, give the word. Assumes nothing.
-use Rattle.std.specs.Prelude.{◌≡◌, refl, List, [], ◌∷◌, ℕ, zero, suc, ◌+◌, ◌-◌, ◌*◌, ◌/◌, ◌%◌, ◌^◌, ◌<◌, length, get_or, drop}
-use Rattle.std.proofs.Common.{sym, ap, ap₂, subst, ◌∙◌, arith, zero-lt-suc, mod-lt, mod-eq_of_lt, zero-add, add-zero, pow-add, pow_pos, shr_lt}
+use Rattle.std.proofs.Common.{◌≡◌, refl, List, [], ◌∷◌, ℕ, zero, suc, ◌+◌, ◌-◌, ◌*◌, ◌/◌, ◌%◌, ◌^◌, ◌<◌, length, get_or, drop, sym, ap, ap₂, subst, ◌∙◌, arith, zero-lt-suc, mod-lt, mod-eq_of_lt, zero-add, add-zero, pow-add, pow_pos, shr_lt}
 use Rattle.std.proofs.Math.Nat.{mod-one}
 use Rattle.std.proofs.Math.Arith.{digits_lt}
 use Rattle.std.proofs.Math.Pow.{high, low, split as halves, field as mod-field, mod-mod-pow}

@@ -1,14 +1,8 @@
 -- The code's table against the definition's: each row is the kind's widths, six at most, 32 bits in all. Assumes nothing.
-use mathlib.Core.Path.{◌≡◌, refl, sym, subst, ◌∙◌}
-use mathlib.Core.Logic.{⊎_elim}
-use mathlib.Core.Bool.{Bool, true, false, ◌&&◌}
-use mathlib.Core.List.{List, [], ◌∷◌}
-use Prim.Native.Nat.{ℕ, zero, suc, ◌+◌, ◌*◌, ◌/◌, ◌%◌, ◌^◌, ◌≤◌, ◌<◌}
-use native.Mathlib.Omega.{arith}
-use native.Mathlib.Nat.{eq-or-lt_of_le, le_of_suc-le-suc, not-suc-le-zero, le_trans, one-mul, mod-le, mod-one, mod-eq_of_lt, mod-lt, lt_of_lt_of_le, zero-mul}
-use lib.Pow.{pow-lt, pow_pos, pow_mono, shl_lt, shr_le}
-use lib.Dec.{T, eqb, eqb→eq, lit<, lit≤}
-use lib.ListN.{length, get_or, get_or-eq_default}
+use Rattle.std.proofs.Common.{◌≡◌, refl, sym, subst, ◌∙◌, ⊎_elim, Bool, true, false, ◌&&◌, List, [], ◌∷◌, ℕ, zero, suc, ◌+◌, ◌*◌, ◌/◌, ◌%◌, ◌^◌, ◌≤◌, ◌<◌, arith, eq-or-lt_of_le, le_of_suc-le-suc, not-suc-le-zero, le_trans, one-mul, mod-eq_of_lt, mod-lt, lt_of_lt_of_le, zero-mul, pow_pos, pow_mono, shl_lt, T, eqb, eqb→eq, lit<, lit≤, length, get_or}
+use native.Mathlib.Nat.{mod-le, mod-one}
+use lib.Pow.{pow-lt, shr_le}
+use lib.ListN.{get_or-eq_default}
 use Rattle.model.specs.declared.Kind.{Kind}
 use Rattle.model.specs.declared.Kind.TheVariants.{Header, Predicate, Clause, Var, Con, Goal, Node0, Node1, Node2, Node3, Value}
 use Rattle.model.specs.Fields.{widths_of, total, below, field}

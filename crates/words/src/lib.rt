@@ -71,14 +71,16 @@ pub fn width(kind: Kind, i: usize) -> u32
     widths[i]
 }
 
-// The bits below field `i`.
+// The bits below field `i`. Counted down by hand: this runs at every read of a field, and a `for` over a range is not folded away where kind and field are known.
 fn low(kind: Kind, i: usize) -> u32
     requires { i < 6 }
     ensures { result ≡ below (widths_of kind) i }
 {
     let mut bits: u32 = 0;
-    for j in i + 1..6 {
+    let mut j: usize = 5;
+    while i < j {
         bits += width(kind, j);
+        j -= 1;
     }
     bits
 }

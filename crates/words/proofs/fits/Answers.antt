@@ -1,6 +1,5 @@
 -- `words::fits` meets its contract. Assumes nothing.
-use mathlib.Core.Path.{refl}
-use native.Mathlib.Omega.{arith}
+use Rattle.std.proofs.Common.{refl, arith}
 use Rattle.words.proofs.TableLaws.{within, shl_one}
 use Rattle.words.proofs.fits.Goals as goal
 

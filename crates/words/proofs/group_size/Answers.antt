@@ -1,8 +1,5 @@
 -- `words::group_size` meets its contract. Assumes nothing.
-use mathlib.Core.Path.{ap, ◌∙◌}
-use Prim.Native.Nat.{ℕ}
-use native.Mathlib.Omega.{arith}
-use lib.ListN.{get_or}
+use Rattle.std.proofs.Common.{ap, ◌∙◌, ℕ, arith, get_or}
 use Rattle.words.proofs.KeptLaws.{sizes, size-row}
 use Rattle.words.proofs.TableLaws.{row-of}
 use Rattle.words.proofs.group_size.Goals as goal

@@ -1,9 +1,5 @@
 -- `words::kept_field` meets its contract. Assumes nothing.
-use mathlib.Core.List.{[]}
-use mathlib.Core.Path.{sym, ap, ◌∙◌}
-use Prim.Native.Nat.{ℕ}
-use native.Mathlib.Omega.{arith}
-use lib.ListN.{get_or}
+use Rattle.std.proofs.Common.{[], sym, ap, ◌∙◌, ℕ, arith, get_or}
 use Rattle.words.proofs.KeptLaws.{kept, kept_row, kept-past}
 use Rattle.words.proofs.TableLaws.{row-of}
 use Rattle.words.proofs.kept_field.Goals as goal

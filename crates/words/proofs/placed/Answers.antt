@@ -1,6 +1,5 @@
 -- `words::placed` meets its contract. Assumes nothing.
-use native.Mathlib.Omega.{arith}
-use lib.Pow.{pow_pos}
+use Rattle.std.proofs.Common.{arith, pow_pos}
 use Rattle.words.proofs.TableLaws.{within, shl_one, placed-lt, placed_past, shift-places}
 use Rattle.words.proofs.placed.Goals as goal
 

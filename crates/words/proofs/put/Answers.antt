@@ -1,5 +1,5 @@
 -- `words::put` meets its contract. Assumes nothing.
-use mathlib.Core.Path.{sym}
+use Rattle.std.proofs.Common.{sym}
 use lib.Seq.{set_out}
 use Rattle.words.proofs.put.Goals as goal
 

@@ -1,6 +1,5 @@
 -- `words::read` meets its contract. Assumes nothing.
-use native.Mathlib.Omega.{arith}
-use lib.Pow.{pow_pos}
+use Rattle.std.proofs.Common.{arith, pow_pos}
 use Rattle.model.specs.Fields.{widths_of}
 use Rattle.words.proofs.TableLaws.{within, shl_one, field_past, field-le, shift-reads}
 use Rattle.words.proofs.read.Goals as goal

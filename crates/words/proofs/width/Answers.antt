@@ -1,9 +1,5 @@
 -- `words::width` meets its contract. Assumes nothing.
-use mathlib.Core.List.{[]}
-use mathlib.Core.Path.{sym, ap, ◌∙◌}
-use Prim.Native.Nat.{ℕ}
-use native.Mathlib.Omega.{arith}
-use lib.ListN.{get_or}
+use Rattle.std.proofs.Common.{[], sym, ap, ◌∙◌, ℕ, arith, get_or}
 use Rattle.words.proofs.TableLaws.{table, table-row, row-of, width-past}
 use Rattle.words.proofs.width.Goals as goal
 

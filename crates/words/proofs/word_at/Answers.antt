@@ -1,5 +1,5 @@
 -- `words::word_at` meets its contract. Assumes nothing.
-use mathlib.Core.Path.{sym}
+use Rattle.std.proofs.Common.{sym}
 use lib.ListN.{get_or-eq_default}
 use Rattle.words.proofs.word_at.Goals as goal
 
