@@ -1,87 +1,112 @@
 // How often each thing was met: schedules, calls and damaged memories, and those of them that agree; each outcome; each refusal.
-use crate::stored::Call;
+ghost use Rattle.std.specs.Prelude.{◌<◌};
+
+use crate::stored::{Call, Kind};
 use std::io;
 
-pub fn count(tally: &mut [u32], at: usize) {
-    if tally.len() <= at {
-        return;
+#[derive(Drop)]
+pub struct Tally {
+    counts: [u32; 128],
+}
+
+// What is counted with those that agree behind it.
+#[derive(Clone, Copy)]
+pub enum Tried {
+    Schedule,
+    Call,
+    Damage,
+}
+
+impl Tried {
+    fn place(self) -> usize
+        ensures { result < 64 }
+    {
+        match self {
+            Tried::Schedule => 0,
+            Tried::Call => 2,
+            Tried::Damage => 4,
+        }
     }
-    let before = tally[at];
-    if 4294967294 < before {
-        return;
+}
+
+impl Tally {
+    pub fn new() -> Tally {
+        Tally { counts: [0; 128] }
     }
-    tally[at] = before + 1;
-}
 
-// Calls that were done stand from 40 on by their kinds, but steps and runs from 8 on by their outcomes; refusals stand from 64 on.
-fn place_of(call: Call) -> usize {
-    if call.number != 0 {
-        return 64 + call.number as usize;
+    fn count(&mut self, at: usize) {
+        if at < 128 {
+            self.counts[at] = self.counts[at].saturating_add(1);
+        }
     }
-    if call.kind == 2 {
-        return 8 + call.first as usize;
+
+    pub fn count_agreed(&mut self, tried: Tried, good: bool) {
+        let at = tried.place();
+        self.count(at);
+        if good {
+            self.count(at + 1);
+        }
     }
-    if call.kind == 3 {
-        return 8 + call.first as usize;
+
+    // Calls that were done stand from 40 on by their kinds, but steps and runs from 8 on by their outcomes; refusals stand from 64 on.
+    pub fn count_answer(&mut self, call: Call) {
+        if call.number != 0 {
+            return self.count(64 + call.number as usize);
+        }
+        self.count(match call.kind {
+            Kind::Step | Kind::Run => 8 + call.first as usize,
+            Kind::Load => 41,
+            Kind::Move => 44,
+            Kind::Read => 45,
+            Kind::Other(number) => 40 + number as usize,
+        })
     }
-    40 + call.kind as usize
-}
 
-pub fn count_answer(tally: &mut [u32], call: Call) {
-    count(tally, place_of(call));
-}
-
-fn met(tally: &[u32], at: usize) -> u64 {
-    words::word_at(tally, at) as u64
-}
-
-fn say(rt: &impl Print, tally: &[u32], at: usize, what: &str) -> io::Result<()> {
-    let times = met(tally, at);
-    println!(rt; "{what}{times}")
-}
-
-pub fn say_outcomes(rt: &impl Print, tally: &[u32]) -> io::Result<()> {
-    say(rt, tally, 8, "Tried ")?;
-    say(rt, tally, 9, "Extended ")?;
-    say(rt, tally, 10, "Answer ")?;
-    say(rt, tally, 11, "Back ")?;
-    say(rt, tally, 12, "Left ")?;
-    say(rt, tally, 13, "Wait ")?;
-    say(rt, tally, 14, "Finished ")?;
-    say(rt, tally, 15, "Spent ")?;
-    say(rt, tally, 32, "Full ")?;
-    say(rt, tally, 41, "loaded ")?;
-    say(rt, tally, 44, "moved ")?;
-    say(rt, tally, 45, "read ")
-}
-
-fn say_refusal(rt: &impl Print, tally: &[u32], number: u32) -> io::Result<()> {
-    let at = 64 + number as usize;
-    if met(tally, at) == 0 {
-        return Ok(());
+    fn met(&self, at: usize) -> u32 {
+        words::word_at(&self.counts, at)
     }
-    print!(rt; "refused with {number}")?;
-    say(rt, tally, at, ": ")
-}
 
-pub fn say_refusals(rt: &impl Print, tally: &[u32]) -> io::Result<()> {
-    let mut number: u32 = 0;
-    while number < 64 {
-        say_refusal(rt, tally, number)?;
-        number += 1;
+    fn say(&self, rt: &impl Print, at: usize, what: &str) -> io::Result<()> {
+        let times = self.met(at);
+        println!(rt; "{what}{times}")
     }
-    Ok(())
-}
 
-// So many of so many agree.
-pub fn say_agreed(
-    rt: &impl Print,
-    tally: &[u32],
-    at: usize,
-    agreed: usize,
-    what: &str,
-) -> io::Result<()> {
-    let good = met(tally, agreed);
-    let all = met(tally, at);
-    print!(rt; "{good} of {all}{what}")
+    pub fn say_outcomes(&self, rt: &impl Print) -> io::Result<()> {
+        self.say(rt, 8, "Tried ")?;
+        self.say(rt, 9, "Extended ")?;
+        self.say(rt, 10, "Answer ")?;
+        self.say(rt, 11, "Back ")?;
+        self.say(rt, 12, "Left ")?;
+        self.say(rt, 13, "Wait ")?;
+        self.say(rt, 14, "Finished ")?;
+        self.say(rt, 15, "Spent ")?;
+        self.say(rt, 32, "Full ")?;
+        self.say(rt, 41, "loaded ")?;
+        self.say(rt, 44, "moved ")?;
+        self.say(rt, 45, "read ")
+    }
+
+    fn say_refusal(&self, rt: &impl Print, number: u32) -> io::Result<()> {
+        let at = 64 + number as usize;
+        if self.met(at) == 0 {
+            return Ok(());
+        }
+        print!(rt; "refused with {number}")?;
+        self.say(rt, at, ": ")
+    }
+
+    pub fn say_refusals(&self, rt: &impl Print) -> io::Result<()> {
+        for number in 0..64u32 {
+            self.say_refusal(rt, number)?;
+        }
+        Ok(())
+    }
+
+    // So many of so many agree.
+    pub fn say_agreed(&self, rt: &impl Print, tried: Tried, what: &str) -> io::Result<()> {
+        let at = tried.place();
+        let good = self.met(at + 1);
+        let all = self.met(at);
+        println!(rt; "{good} of {all} {what} agree")
+    }
 }

@@ -40,17 +40,6 @@ struct Case<'a> {
     end: usize,
 }
 
-// The words of `bytes`, as many as there is room for; the count of them.
-fn read_words(bytes: &[u8], words: &mut [u32]) -> usize
-    ensures { result ≤ length words.new }
-{
-    let (fours, _) = bytes.as_chunks::<4>();
-    for (word, four) in words.iter_mut().zip(fours) {
-        *word = u32::from_be_bytes(*four);
-    }
-    words.len().min(fours.len())
-}
-
 // Number and position as the check's one number.
 fn pair(number: u32, position: u32) -> u64 {
     number as u64 * 4294967296 + position as u64
@@ -194,6 +183,6 @@ fn main(rt: HostRuntime) -> io::Result<()> {
     let mut bytes = file_room();
     let n = files::read_full(&mut file, &mut bytes);
     let mut words = word_room();
-    let count = read_words(&bytes[..n], &mut words);
+    let count = files::lay_words(&bytes[..n], &mut words);
     run_cases(&rt, &bytes[..n], &words[..count])
 }

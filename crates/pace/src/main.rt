@@ -3,70 +3,46 @@
 #![tactic(auto)]
 
 ghost use Rattle.std.specs.Prelude.{◌≡◌, ◌+◌, ◌≤◌, ◌<◌, length};
-ghost use Rattle.turns.specs.Hand.{AtHand};
+ghost use Rattle.turns.specs.Hand.{AtHand, Begun};
 
+use engine::RunEnd;
 use model::Outcome;
 use std::env::{Env, FillError};
 use std::rt::Files;
 use std::{fs, io, str};
 
-fn word(a: u8, b: u8, c: u8, d: u8) -> u32 {
-    ((a as u32 * 256 + b as u32) * 256 + c as u32) * 256 + d as u32
+// The memory that a search works in.
+#[derive(Drop)]
+struct Memory {
+    nodes: [u32; 256],
+    cells: [u32; 2048],
+    trail: [u32; 2048],
+    arrays: [u32; 8192],
+    workers: [u32; 4],
 }
 
-// Word `i` of the bytes, 0 past the last whole word.
-fn word_of(bytes: &[u8], i: usize) -> u32 {
-    if bytes.len() / 4 <= i {
-        return 0;
-    }
-    let at = 4 * i;
-    word(bytes[at], bytes[at + 1], bytes[at + 2], bytes[at + 3])
-}
-
-fn lay_out(bytes: &[u8], words: &mut [u32]) {
-    let mut i: usize = 0;
-    while i < words.len() {
-        words[i] = word_of(bytes, i);
-        i += 1;
-    }
+// What a worker has at hand through a run, beside the memory.
+#[derive(Drop)]
+struct Hand {
+    places: [u32; 128],
+    clauses: [u32; 128],
+    children: [u32; 64],
 }
 
 // A number in decimal, up to the first byte that is no digit, of nine digits at the most.
 fn number(text: &[u8]) -> u32 {
     let mut value: u32 = 0;
-    let mut i: usize = 0;
-    while i < text.len() {
-        let digit = text[i];
-        if digit < 48 {
+    for digit in text {
+        if !digit.is_ascii_digit() || 99999999 < value {
             return value;
         }
-        if 57 < digit {
-            return value;
-        }
-        if 99999999 < value {
-            return value;
-        }
-        value = 10 * value + (digit - 48) as u32;
-        i += 1;
+        value = 10 * value + u32::from(*digit - b'0');
     }
     value
 }
 
 fn is_answer(outcome: Outcome) -> bool {
-    match outcome {
-        Outcome::Answer => true,
-        _ => false,
-    }
-}
-
-// A run never takes more steps than it may; the test saves a proof.
-fn taken(count: u32, left: u32) -> u32
-    ensures { result ≤ left }
-{
-    if left < count {
-        return left;
-    }
-    count
+    matches!(outcome, Outcome::Answer)
 }
 
 // The steps that are left after a run that took so many: none where it ended in anything but an answer. One that took none would end the search too, so that it is seen to end.
@@ -83,107 +59,101 @@ fn left_after(left: u32, steps: u32, outcome: Outcome) -> u32
     left - steps
 }
 
-// Runs by worker 0 until one ends in anything but an answer, of 65,535 steps in all, as document 01's desk program takes. Answers how many it took.
-fn steps<'a>(
-    image: &'a [u32],
-    query: &'a [u32],
-    nodes: &mut [u32],
-    cells: &mut [u32],
-    trail: &mut [u32],
-    array: &mut [u32],
-    workers: &mut [u32],
-    places: &mut [u32],
-    clauses: &mut [u32],
-    children: &mut [u32],
-) -> u32
-    requires { AtHand image.now query.now nodes.old places.old clauses.old children.old }
-    ensures { result ≤ 65535 }
-{
-    let mut total: u32 = 0;
-    let mut left: u32 = 65535;
-    while 0 < left {
-        let end = engine::run_on(
-            image, query, nodes, cells, trail, array, workers, places, clauses, children, 0, left,
-        );
-        let outcome = end.outcome;
-        let count = taken(end.count, left);
-        total += count;
-        left = left_after(left, count, outcome);
+impl Memory {
+    fn new() -> Memory {
+        Memory {
+            nodes: [0; 256],
+            cells: [0; 2048],
+            trail: [0; 2048],
+            arrays: [0; 8192],
+            workers: [0; 4],
+        }
     }
-    total
-}
 
-// One search, from a memory that is set afresh.
-fn search<'a>(
-    image: &'a [u32],
-    query: &'a [u32],
-    nodes: &mut [u32],
-    cells: &mut [u32],
-    trail: &mut [u32],
-    arrays: &mut [u32],
-    workers: &mut [u32],
-) -> u32
-    requires { (length nodes.old ≡ 256) × (length cells.old ≡ 2048) × (length trail.old ≡ 2048) × (length arrays.old ≡ 8192) × (length workers.old ≡ 4) }
-    ensures { result ≤ 65535 }
-{
-    moves::load(query, nodes, cells, trail, arrays, workers);
-    let mut places = [0u32; 128];
-    let mut clauses = [0u32; 128];
-    let mut children = [0u32; 64];
-    engine::begin(nodes, &mut places, &mut clauses, &mut children);
-    steps(
-        image,
-        query,
-        nodes,
-        cells,
-        trail,
-        &mut arrays[..2048],
-        workers,
-        &mut places,
-        &mut clauses,
-        &mut children,
-    )
+    fn load(&mut self, query: &[u32]) {
+        moves::load(
+            query,
+            &mut self.nodes,
+            &mut self.cells,
+            &mut self.trail,
+            &mut self.arrays,
+            &mut self.workers,
+        );
+    }
+
+    fn begin(&self, hand: &mut Hand)
+        ensures { Begun self.now.nodes hand.new.places hand.new.clauses hand.new.children }
+    {
+        engine::begin(
+            &self.nodes,
+            &mut hand.places,
+            &mut hand.clauses,
+            &mut hand.children,
+        );
+    }
+
+    fn run<'a>(&mut self, hand: &mut Hand, image: &'a [u32], query: &'a [u32], left: u32) -> RunEnd
+        requires { AtHand image.now query.now self.old.nodes hand.old.places hand.old.clauses hand.old.children }
+        ensures { AtHand image.now query.now self.new.nodes hand.new.places hand.new.clauses hand.new.children }
+    {
+        let arrays = &mut self.arrays[..];
+        let own: usize = 2048;
+        engine::run_on(
+            image,
+            query,
+            &mut self.nodes,
+            &mut self.cells,
+            &mut self.trail,
+            &mut arrays[..own],
+            &mut self.workers,
+            &mut hand.places,
+            &mut hand.clauses,
+            &mut hand.children,
+            0,
+            left,
+        )
+    }
+
+    // Runs by worker 0 until one ends in anything but an answer, of 65,535 steps in all, as document 01's desk program takes. Answers how many it took.
+    fn steps<'a>(&mut self, hand: &mut Hand, image: &'a [u32], query: &'a [u32]) -> u32
+        requires { AtHand image.now query.now self.old.nodes hand.old.places hand.old.clauses hand.old.children }
+        ensures { result ≤ 65535 }
+    {
+        let mut total: u32 = 0;
+        let mut left: u32 = 65535;
+        while 0 < left {
+            let end = self.run(hand, image, query, left);
+            // A run never takes more steps than it may; the least of both saves a proof.
+            let count = end.count.min(left);
+            total += count;
+            left = left_after(left, count, end.outcome);
+        }
+        total
+    }
+
+    // One search, from a memory that is set afresh.
+    fn search<'a>(&mut self, image: &'a [u32], query: &'a [u32]) -> u32
+        ensures { result ≤ 65535 }
+    {
+        self.load(query);
+        let mut hand = Hand {
+            places: [0; 128],
+            clauses: [0; 128],
+            children: [0; 64],
+        };
+        self.begin(&mut hand);
+        self.steps(&mut hand, image, query)
+    }
 }
 
 // So many searches in one memory; answers their steps.
-fn searches<'a>(
-    image: &'a [u32],
-    query: &'a [u32],
-    nodes: &mut [u32],
-    cells: &mut [u32],
-    trail: &mut [u32],
-    arrays: &mut [u32],
-    workers: &mut [u32],
-    times: u32,
-) -> u64
-    requires { (length nodes.old ≡ 256) × (length cells.old ≡ 2048) × (length trail.old ≡ 2048) × (length arrays.old ≡ 8192) × (length workers.old ≡ 4) }
-{
+fn searches<'a>(image: &'a [u32], query: &'a [u32], times: u32) -> u64 {
+    let mut memory = Memory::new();
     let mut total: u64 = 0;
-    let mut done: u32 = 0;
-    while done < times {
-        let taken = search(image, query, nodes, cells, trail, arrays, workers);
-        total += taken as u64;
-        done += 1;
+    for _ in 0..times {
+        total += u64::from(memory.search(image, query));
     }
     total
-}
-
-fn in_fresh_memory<'a>(image: &'a [u32], query: &'a [u32], times: u32) -> u64 {
-    let mut nodes = [0u32; 256];
-    let mut cells = [0u32; 2048];
-    let mut trail = [0u32; 2048];
-    let mut arrays = [0u32; 8192];
-    let mut workers = [0u32; 4];
-    searches(
-        image,
-        query,
-        &mut nodes,
-        &mut cells,
-        &mut trail,
-        &mut arrays,
-        &mut workers,
-        times,
-    )
 }
 
 fn say(rt: &impl Print, times: u32, total: u64) -> io::Result<()> {
@@ -193,7 +163,7 @@ fn say(rt: &impl Print, times: u32, total: u64) -> io::Result<()> {
 // The pair is judged once, as a public call judges it before it runs.
 fn checked<'a>(rt: &impl Print, image: &'a [u32], query: &'a [u32], times: u32) -> io::Result<()> {
     match image::check_query(image, query) {
-        Ok(()) => say(rt, times, in_fresh_memory(image, query, times)),
+        Ok(()) => say(rt, times, searches(image, query, times)),
         Err(_) => println!(rt; "refused"),
     }
 }
@@ -239,6 +209,6 @@ fn main(rt: HostRuntime) -> io::Result<()> {
     let mut bytes = [0u8; 65536];
     let size = files::read_full(&mut file, &mut bytes);
     let mut words = [0u32; 16384];
-    lay_out(&bytes[..size], &mut words);
-    parted(&rt, &words[..size / 4], times(&rt))
+    let count = files::lay_words(&bytes[..size], &mut words);
+    parted(&rt, &words[..count], times(&rt))
 }

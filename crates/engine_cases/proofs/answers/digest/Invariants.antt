@@ -1,10 +1,6 @@
--- `engine_cases::answers::digest` is safe and ends. Assumes nothing.
-use Prim.Native.Nat.{◌-◌, ◌<◌}
-use lib.ListN.{length}
+-- The sum so far is below the prime. Assumes nothing.
+use Rattle.std.proofs.Common.{◌<◌}
 use Rattle.engine_cases.proofs.answers.digest.Given as goal
 
-abbrev pub invariant-loop-i : goal.invariant-loop-i
-invariant-loop-i l = l.sum < 4294967311
-
-abbrev pub decreases-loop-i : goal.decreases-loop-i
-decreases-loop-i l = length l.words - l.i
+abbrev pub invariant-loop-word : goal.invariant-loop-word
+invariant-loop-word l = l.sum < 4294967311
