@@ -98,12 +98,8 @@ pub enum Found {
     Constant(u32),
 }
 
-// Where a node's first goal stands: the slot whose clause holds it, and its place there.
-#[derive(Clone, Copy)]
-pub enum FirstGoal {
-    NoGoal,
-    Goal(u32, u32),
-}
+// Where a node's first goal stands, if it has one: the slot whose clause holds it, and its index there.
+pub type FirstGoal = Option<(u32, u32)>;
 
 // What unifying two dereferenced arguments comes to: nothing to do, a clash of constants, or a binding of a variable to a word.
 #[derive(Clone, Copy)]
@@ -113,12 +109,9 @@ pub enum Pairing {
     Binds(VarNo, CellAddr, u32),
 }
 
-// How unifying a pair of arguments, or a head, ends, and how many trail entries the child has then.
-#[derive(Clone, Copy)]
-pub enum Unified {
-    Yes(u32),
-    No(u32),
-}
+// How unifying a pair of arguments, or a head, failed: a clash of constants, when the child had so many trail entries.
+#[derive(Clone, Copy, Debug, PartialEq, Eq)]
+pub struct Clash(pub u32);
 
 // What a step or a run did. Document 01 gives the numbers in brackets.
 #[derive(Clone, Copy)]

@@ -1,4 +1,5 @@
 -- What one turn of a run leaves of the first node words: all of them while clauses are passed over, else all but one slot's. So a table of children can follow. Assumes nothing.
+use Rattle.std.specs.Prelude.{Ok, Err}
 use mathlib.Core.Path.{◌≡◌, refl, sym, ap, subst, ◌∙◌}
 use mathlib.Core.Bool.{Bool, true, false, cond}
 use mathlib.Core.List.{List, [], ◌∷◌}
@@ -8,8 +9,7 @@ use lib.ListN.{get_or, set}
 use lib.Seq.{get_or-set_other}
 use Rattle.model.specs.declared.Kind.TheVariants.{Node2, Goal}
 use Rattle.model.specs.declared.Outcome.{Outcome}
-use Rattle.model.specs.declared.Unified.{Unified}
-use Rattle.model.specs.declared.Unified.TheVariants.{Yes, No}
+use Rattle.model.specs.Terms.{Unified}
 use Rattle.model.specs.Fields.{widths_of, clause_length, arity, clause_count, first_clause}
 use Rattle.model.specs.Image.{predicate_word}
 use Rattle.model.specs.Decoding.{clause_next, clause_from, clause_at}
@@ -118,8 +118,8 @@ module _ (nodes : List ℕ) (child slot a b c d : ℕ) (other : slot ≡ child �
 module _ (image query : List ℕ) (worker node child position : ℕ) where
   taken-agrees : (unified : Unified) (v : View) → Agree child v.nodes (taken unified image query v worker node child position).after.nodes
   unfolding taken failed succeeded grown
-  taken-agrees (No count) v slot other = raised-same v.nodes node slot
-  taken-agrees (Yes count) v slot other = raised-same v.nodes node slot ∙ four-other (raised v.nodes node) child slot _ _ _ _ other
+  taken-agrees (Err clash) v slot other = raised-same v.nodes node slot
+  taken-agrees (Ok count) v slot other = raised-same v.nodes node slot ∙ four-other (raised v.nodes node) child slot _ _ _ _ other
 
 pub take-agrees : (image query : List ℕ) (v : View) (worker node child : ℕ) → Agree child v.nodes (take_clause image query v worker node child).after.nodes
 unfolding take_clause

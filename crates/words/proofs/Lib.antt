@@ -1,3 +1,4 @@
 pub mod FieldLaws
 pub mod TableLaws
 pub mod KeptLaws
+pub mod Counting
