@@ -33,6 +33,7 @@ fn found(cells: &[u32], said: u32, at: CellAddr) -> Found
     Found::Unbound(VarNo(number), at)
 }
 
+// What a cell leads to. A REF is to a lower number, so there are at most as many as numbers; past them there would be no answer.
 pub fn dereference(array: &[u32], cells: &[u32], start: CellAddr) -> Found
     ensures { result ≡ dereference 2048 array.now cells.now start.0 }
 {
