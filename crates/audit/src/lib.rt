@@ -122,8 +122,8 @@ fn goal_sound<'a>(
     ensures { result ≡ goal_sound image.now query.now nodes.now slot goal }
 {
     match goal {
-        FirstGoal::NoGoal => without_goal(nodes, slot),
-        FirstGoal::Goal(holder, index) => with_goal(image, query, nodes, slot, holder, index),
+        None => without_goal(nodes, slot),
+        Some((holder, index)) => with_goal(image, query, nodes, slot, holder, index),
     }
 }
 
@@ -133,7 +133,7 @@ fn rule_goal<'a>(image: &'a [u32], query: &'a [u32], nodes: &[u32], slot: u32) -
     ensures { result ≡ rule_goal image.now query.now nodes.now slot }
 {
     if slot == 0 {
-        return FirstGoal::Goal(0, 0);
+        return Some((0, 0));
     }
     let parent = memory::parent(nodes, slot);
     goals::child_goal(

@@ -1,21 +1,14 @@
--- Rule 7 from the parts that its functions give: the head's unifying, a child made, a clause taken. Assumes nothing.
-use mathlib.Core.Path.{◌≡◌, sym, ap, ap₂, ◌∙◌}
-use mathlib.Core.List.{List, []}
-use Prim.Native.Nat.{ℕ, ◌+◌, ◌*◌, ◌<◌}
-use native.Mathlib.Omega.{arith}
-use lib.ListN.{get_or, set}
-use Rattle.model.specs.declared.FirstGoal.{FirstGoal}
+-- Rule 7 from the parts that its functions give: the head's unifying, a head that failed, a clause taken. Assumes nothing.
+use Rattle.std.proofs.Common.{◌≡◌, sym, ap, ap₂, ◌∙◌, List, [], Ok, Err, ℕ, ◌+◌, ◌*◌, ◌<◌, get_or, arith}
 use Rattle.model.specs.declared.Outcome.{Outcome}
 use Rattle.model.specs.declared.Outcome.TheVariants.{Tried}
-use Rattle.model.specs.declared.Unified.{Unified}
-use Rattle.model.specs.declared.Unified.TheVariants.{Yes, No}
 use Rattle.model.specs.Fields.{arity, variables, goal_count}
 use Rattle.model.specs.Image.{predicate_word}
 use Rattle.model.specs.Decoding.{clause_at}
 use Rattle.model.specs.Memory.{base, own_variables, frame, goal_index, tried, first_of, cleared}
 use Rattle.model.specs.Goals.{clause_words, child_goal}
-use Rattle.model.specs.Terms.{Store, store, unify_head}
-use Rattle.model.specs.Steps.{View, view, Stepped, stepped, goal_of, predicate_of, undone, laid, raised, grown, arrival, failed, succeeded, head_store, with_store, taken, take_clause}
+use Rattle.model.specs.Terms.{Store, store, unify_head, Unified, clash}
+use Rattle.model.specs.Steps.{View, view, Stepped, stepped, goal_of, predicate_of, undone, laid, raised, failed, succeeded, head_store, with_store, taken, take_clause}
 use Rattle.terms.proofs.HeadLaws.{counted, unify_head-count}
 use Rattle.memory.proofs.FieldBounds.{arity-lt}
 
@@ -25,14 +18,6 @@ pub head-from : (image query nodes array cells trail : List ℕ) (node child pre
     → unify_head count image words child (start + own) slot (position + 1) (place + 1) array blank trail 0 ≡ head_store image query nodes array cells trail node child predicate position
 unfolding head_store
 head-from image query nodes array cells trail node child predicate position slot place start own count own! words blank e₁ e₂ e₃ e₄ e₅ e₆ e₇ e₈ = cc
-
-pub success-from : (image query nodes workers : List ℕ) (worker node child position count : ℕ) (goals slot index own : ℕ) (first : FirstGoal) (risen made went : List ℕ) (outcome : Outcome)
-    → goals ≡ goal_count (get_or image position 0) → slot ≡ frame nodes node → index ≡ goal_index nodes node → first ≡ child_goal image query nodes child goals slot index
-    → risen ≡ raised nodes node → own ≡ variables (get_or image position 0) → made ≡ grown risen node child count own position first → went ≡ set workers worker child → outcome ≡ arrival first
-    → stepped outcome (view made [] [] [] went)
-    ≡ succeeded image (view nodes [] [] [] workers) worker node child position count (child_goal image query nodes child (goal_count (get_or image position 0)) (frame nodes node) (goal_index nodes node))
-unfolding succeeded
-success-from image query nodes workers worker node child position count goals slot index own first risen made went outcome e₁ e₂ e₃ e₄ e₅ e₆ e₇ e₈ e₉ = cc
 
 -- the entries of a head that was tried: at most one an argument, and an arity has four bits
 pub head_store-count : (image query nodes array cells trail : List ℕ) (node child predicate position : ℕ) (array_next cells_next trail_next : List ℕ) (found : Unified)
@@ -66,7 +51,7 @@ module _ (image query nodes cells trail array workers : List ℕ) (worker node c
       taken (head_store image query nodes array cells trail node child p at).unified image query (with_store (view nodes cells trail array workers) (head_store image query nodes array cells trail node child p at)) worker node child at)
       calls (stands ∙ ap (λ (p : ℕ). clause_at image p (tried nodes node)) calls)
 
-  pub take-failed : (count : ℕ) (n c t a : List ℕ) → found ≡ No count
+  pub take-failed : (count : ℕ) (n c t a : List ℕ) → found ≡ Err (clash count)
       → view n c t a [] ≡ failed image (view nodes cells_next trail_next array_next []) node child position count
       → stepped Tried (view n c t a workers) ≡ take_clause image query (view nodes cells trail array workers) worker node child
   unfolding taken failed
@@ -74,7 +59,7 @@ module _ (image query nodes cells trail array workers : List ℕ) (worker node c
       ap (λ (v : View). stepped Tried (view v.nodes v.cells v.trail v.array workers)) e
       ∙ ap (λ (u : Unified). taken u image query (view nodes cells_next trail_next array_next workers) worker node child position) (sym is) ∙ takes
 
-  pub take-succeeded : (count : ℕ) (n w : List ℕ) (outcome : Outcome) → found ≡ Yes count
+  pub take-succeeded : (count : ℕ) (n w : List ℕ) (outcome : Outcome) → found ≡ Ok count
       → stepped outcome (view n [] [] [] w)
       ≡ succeeded image (view nodes [] [] [] workers) worker node child position count (child_goal image query nodes child (goal_count (get_or image position 0)) (frame nodes node) (goal_index nodes node))
       → stepped outcome (view n cells_next trail_next array_next w) ≡ take_clause image query (view nodes cells trail array workers) worker node child

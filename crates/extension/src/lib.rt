@@ -9,28 +9,31 @@ ghost use Rattle.model.specs.Goals.{child_goal};
 ghost use Rattle.model.specs.Terms.{store};
 ghost use Rattle.model.specs.Steps.{view, stepped, raised, grown, goal_fields, arrival, failed, succeeded, head_store, take_clause, goal_of, predicate_of};
 
-use model::{FirstGoal, Outcome, Unified};
+use model::{Clash, FirstGoal, Outcome};
 
 // Node word 2 of a new node.
+#[tactic(auto, unfolding(model::specs::Steps::goal_fields))]
 fn goal_fields(first: FirstGoal) -> u32
     ensures { result ≡ goal_fields first }
 {
     match first {
-        FirstGoal::NoGoal => memory::node2(0, 0, 0, 0),
-        FirstGoal::Goal(slot, index) => memory::node2(1, slot, index, 0),
+        None => memory::node2(0, 0, 0, 0),
+        Some((slot, index)) => memory::node2(1, slot, index, 0),
     }
 }
 
+#[tactic(auto, unfolding(model::specs::Steps::arrival))]
 fn arrival(first: FirstGoal) -> Outcome
     ensures { result ≡ arrival first }
 {
     match first {
-        FirstGoal::NoGoal => Outcome::Answer,
-        FirstGoal::Goal(_, _) => Outcome::Extended,
+        None => Outcome::Answer,
+        Some(_) => Outcome::Extended,
     }
 }
 
 // A child's four node words.
+#[tactic(auto, unfolding(model::specs::Steps::grown))]
 fn grow(
     nodes: &mut [u32],
     node: u32,
@@ -56,6 +59,7 @@ fn grow(
 }
 
 // A clause's head with a node's first goal, over the child's cells.
+#[tactic(auto, unfolding(model::specs::Steps::head_store))]
 fn try_head<'a>(
     image: &'a [u32],
     query: &'a [u32],
@@ -68,7 +72,7 @@ fn try_head<'a>(
     predicate: u32,
     place: usize,
     position: u32,
-) -> Unified
+) -> Result<u32, Clash>
     requires { (child < 64) × (place ≡ goal_of image.now query.now nodes.now node) }
     ensures { store array.new cells.new trail.new result ≡ head_store image.now query.now nodes.now array.old cells.old trail.old node child predicate position }
 {
@@ -95,6 +99,7 @@ fn try_head<'a>(
 }
 
 // A head that failed: what was bound and laid is taken out again, and the count of clauses tried rises.
+#[tactic(auto, unfolding(model::specs::Steps::failed))]
 fn fail(
     image: &[u32],
     nodes: &mut [u32],
@@ -118,6 +123,7 @@ fn fail(
 }
 
 // A head that unified: the child's node, and the worker goes there.
+#[tactic(auto, unfolding(model::specs::Steps::succeeded))]
 fn succeed<'a>(
     image: &'a [u32],
     query: &'a [u32],
@@ -177,13 +183,13 @@ pub fn take_clause<'a>(
     match try_head(
         image, query, nodes, cells, trail, array, node, child, predicate, place, position,
     ) {
-        Unified::No(count) => {
+        Err(Clash(count)) => {
             fail(
                 image, nodes, cells, trail, array, node, child, position, count,
             );
             Outcome::Tried
         }
-        Unified::Yes(count) => succeed(
+        Ok(count) => succeed(
             image, query, nodes, workers, worker, node, child, position, count,
         ),
     }

@@ -1,36 +1,26 @@
 -- One turn of each walk over goals and clauses, and of the climb; and how far a walk can come. Assumes nothing.
-use mathlib.Core.Path.{◌≡◌, refl}
-use mathlib.Core.Bool.{Bool, true, false}
-use mathlib.Core.List.{List}
-use Prim.Native.Nat.{ℕ, zero, suc, ◌+◌, ◌-◌, ◌*◌, ◌≤◌, ◌<◌}
-use native.Mathlib.Omega.{arith}
-use native.Mathlib.Numerals.{add-one}
-use lib.Dec.{eqb}
-use lib.ListN.{get_or}
-use borrow.Author.Tests.{eq-eqb, ne_eqb, lt-ltb, le-ltb}
-use Rattle.model.specs.declared.FirstGoal.TheVariants.{NoGoal, Goal}
+use Rattle.std.proofs.Common.{◌≡◌, refl, Bool, true, false, List, Some, None, ℕ, zero, suc, ◌+◌, ◌-◌, ◌*◌, ◌≤◌, ◌<◌, arith, add-one, eqb, get_or, eq-eqb, ne_eqb}
+use borrow.Author.Tests.{lt-ltb, le-ltb}
 use Rattle.model.specs.Fields.{op, clause_length, first_clause, goal_predicate}
 use Rattle.model.specs.Memory.{parent, clause_position, frame, goal_index}
 use Rattle.model.specs.Image.{predicate_word}
 use Rattle.model.specs.Decoding.{goal_next, goal_from, clause_next, clause_from, clause_at}
-use Rattle.model.specs.Goals.{clause_words, past_head, goal_place, goals_of, next_goal}
+use Rattle.model.specs.Goals.{FirstGoal, clause_words, past_head, goal_place, goals_of, next_goal}
 use Rattle.model.specs.Steps.{goal_of}
+use Rattle.words.proofs.Ranges.{left-after, none-left}
 use Rattle.memory.proofs.FieldBounds.{arity-lt, first_clause-lt, clause_length-lt, clause_position-lt, goal_index-lt}
 
-pub past_head-end : (words : List ℕ) (left at : ℕ) → left ≤ 0 → at ≡ past_head left words at
+pub past_head-end : (words : List ℕ) (at end : ℕ) → end ≤ at → at ≡ past_head (end - at) words at
 unfolding past_head
-past_head-end words zero at h = refl
-past_head-end words (suc left) at h = absurd (omega arith)
+past_head-end words at end h = rw (none-left at end h) refl
 
-pub past_head-hit : (words : List ℕ) (left at : ℕ) → 0 < left → op (get_or words at 0) ≡ 9 → at ≡ past_head left words at
+pub past_head-hit : (words : List ℕ) (at end : ℕ) → at < end → op (get_or words at 0) ≡ 9 → at ≡ past_head (end - at) words at
 unfolding past_head
-past_head-hit words zero at h e = absurd (omega arith)
-past_head-hit words (suc left) at h e = rw (eq-eqb (op (get_or words at 0)) 9 e, past_head) refl
+past_head-hit words at end h e = rw (left-after at end h, eq-eqb (op (get_or words at 0)) 9 e, past_head) refl
 
-pub past_head-miss : (words : List ℕ) (left at : ℕ) → 0 < left → (op (get_or words at 0) ≡ 9 → ⊥) → past_head (left - 1) words (at + 1) ≡ past_head left words at
+pub past_head-miss : (words : List ℕ) (at end : ℕ) → at < end → (op (get_or words at 0) ≡ 9 → ⊥) → past_head (end - (at + 1)) words (at + 1) ≡ past_head (end - at) words at
 unfolding past_head
-past_head-miss words zero at h e = absurd (omega arith)
-past_head-miss words (suc left) at h e = let s : suc left - 1 ≡ left = omega arith in rw (s, ne_eqb (op (get_or words at 0)) 9 e, past_head) refl
+past_head-miss words at end h e = rw (left-after at end h, ne_eqb (op (get_or words at 0)) 9 e, past_head) refl
 
 -- past at most so many words
 pub past_head-le : (most : ℕ) (words : List ℕ) (at : ℕ) → past_head most words at ≤ at + most
@@ -42,15 +32,13 @@ past_head-le (suc most) words at = go (eqb (op (get_or words at 0)) 9) (past_hea
     go true h = omega arith
     go false h = omega arith
 
-pub goal_from-end : (image words : List ℕ) (left at : ℕ) → left ≤ 0 → at ≡ goal_from image words at left
+pub goal_from-end : (image words : List ℕ) (i n at : ℕ) → n ≤ i → at ≡ goal_from image words at (n - i)
 unfolding goal_from
-goal_from-end image words zero at h = refl
-goal_from-end image words (suc left) at h = absurd (omega arith)
+goal_from-end image words i n at h = rw (none-left i n h) refl
 
-pub goal_from-turn : (image words : List ℕ) (left at : ℕ) → 0 < left → goal_from image words (goal_next image words at) (left - 1) ≡ goal_from image words at left
+pub goal_from-turn : (image words : List ℕ) (i n at : ℕ) → i < n → goal_from image words (goal_next image words at) (n - (i + 1)) ≡ goal_from image words at (n - i)
 unfolding goal_from
-goal_from-turn image words zero at h = absurd (omega arith)
-goal_from-turn image words (suc left) at h = let s : suc left - 1 ≡ left = omega arith in rw s refl
+goal_from-turn image words i n at h = rw (left-after i n h) refl
 
 pub goal_next-le : (image words : List ℕ) (at : ℕ) → goal_next image words at ≤ at + 16
 unfolding goal_next
@@ -61,38 +49,48 @@ unfolding clause_from
 clause_from-end image zero at h = refl
 clause_from-end image (suc left) at h = absurd (omega arith)
 
-pub clause_from-turn : (image : List ℕ) (left at : ℕ) → 0 < left → clause_from image (at + clause_length (get_or image at 0)) (left - 1) ≡ clause_from image at left
+pub clause_from-turn : (image : List ℕ) (i n at : ℕ) → i < n → clause_from image (at + clause_length (get_or image at 0)) (n - (i + 1)) ≡ clause_from image at (n - i)
 unfolding clause_from clause_next
-clause_from-turn image zero at h = absurd (omega arith)
-clause_from-turn image (suc left) at h = let s : suc left - 1 ≡ left = omega arith in rw s refl
+clause_from-turn image i n at h = rw (left-after i n h) refl
 
 pub clause_next-le : (image : List ℕ) (at : ℕ) → at + clause_length (get_or image at 0) ≤ at + 65535
 clause_next-le image at = omega (arith, clause_length-lt (get_or image at 0))
 
--- the climb: a goal remains here, there is nothing above, this is the root, or it goes on
+-- the climb by how many turns are left: without any there is no goal
+abbrev pub climbs : ℕ → List ℕ → List ℕ → List ℕ → ℕ → ℕ → FirstGoal
+climbs zero image query nodes slot index = None
+climbs (suc depth) image query nodes slot index = next_goal depth image query nodes slot index
+
+-- a turn of it: a goal remains here, this is the root, or it goes on
 module _ (image query nodes : List ℕ) (slot index : ℕ) where
-  pub next_goal-here : (depth : ℕ) → index + 1 < goals_of image query nodes slot → Goal slot (index + 1) ≡ next_goal depth image query nodes slot index
+  next_goal-here : (depth : ℕ) → index + 1 < goals_of image query nodes slot → Some (slot, index + 1) ≡ next_goal depth image query nodes slot index
   unfolding next_goal
   next_goal-here zero h = simp (lt-ltb (index + 1) (goals_of image query nodes slot) h)
   next_goal-here (suc depth) h = rw (lt-ltb (index + 1) (goals_of image query nodes slot) h, next_goal) refl
 
-  pub next_goal-top : (depth : ℕ) → goals_of image query nodes slot ≤ index + 1 → depth ≡ 0 → NoGoal ≡ next_goal depth image query nodes slot index
-  unfolding next_goal
-  next_goal-top zero h z = simp (le-ltb (index + 1) (goals_of image query nodes slot) h)
-  next_goal-top (suc depth) h z = absurd (omega arith)
-
-  pub next_goal-root : (depth : ℕ) → goals_of image query nodes slot ≤ index + 1 → slot ≡ 0 → NoGoal ≡ next_goal depth image query nodes slot index
+  next_goal-root : (depth : ℕ) → goals_of image query nodes slot ≤ index + 1 → slot ≡ 0 → None ≡ next_goal depth image query nodes slot index
   unfolding next_goal
   next_goal-root zero h r = simp (le-ltb (index + 1) (goals_of image query nodes slot) h)
   next_goal-root (suc depth) h r = rw (le-ltb (index + 1) (goals_of image query nodes slot) h, eq-eqb slot 0 r, next_goal) refl
 
-  pub next_goal-up : (depth : ℕ) → goals_of image query nodes slot ≤ index + 1 → 0 < depth → (slot ≡ 0 → ⊥)
-      → next_goal (depth - 1) image query nodes (frame nodes (parent nodes slot)) (goal_index nodes (parent nodes slot)) ≡ next_goal depth image query nodes slot index
+  next_goal-up : (depth : ℕ) → goals_of image query nodes slot ≤ index + 1 → (slot ≡ 0 → ⊥)
+      → climbs depth image query nodes (frame nodes (parent nodes slot)) (goal_index nodes (parent nodes slot)) ≡ next_goal depth image query nodes slot index
   unfolding next_goal
-  next_goal-up zero h z n = absurd (omega arith)
-  next_goal-up (suc depth) h z n =
-      let s : suc depth - 1 ≡ depth = omega arith in
-      rw (s, le-ltb (index + 1) (goals_of image query nodes slot) h, ne_eqb slot 0 n, next_goal) refl
+  next_goal-up zero h n = simp (le-ltb (index + 1) (goals_of image query nodes slot) h)
+  next_goal-up (suc depth) h n = rw (le-ltb (index + 1) (goals_of image query nodes slot) h, ne_eqb slot 0 n, next_goal) refl
+
+  pub climbs-here : (i n : ℕ) → i < n → index + 1 < goals_of image query nodes slot → Some (slot, index + 1) ≡ climbs (n - i) image query nodes slot index
+  climbs-here i n h g = rw (left-after i n h) (next_goal-here (n - (i + 1)) g)
+
+  pub climbs-root : (i n : ℕ) → i < n → goals_of image query nodes slot ≤ index + 1 → slot ≡ 0 → None ≡ climbs (n - i) image query nodes slot index
+  climbs-root i n h g r = rw (left-after i n h) (next_goal-root (n - (i + 1)) g r)
+
+  pub climbs-up : (i n : ℕ) → i < n → goals_of image query nodes slot ≤ index + 1 → (slot ≡ 0 → ⊥)
+      → climbs (n - (i + 1)) image query nodes (frame nodes (parent nodes slot)) (goal_index nodes (parent nodes slot)) ≡ climbs (n - i) image query nodes slot index
+  climbs-up i n h g r = rw (left-after i n h) (next_goal-up (n - (i + 1)) g r)
+
+  pub climbs-end : (i n : ℕ) → n ≤ i → None ≡ climbs (n - i) image query nodes slot index
+  climbs-end i n h = rw (none-left i n h) refl
 
 clause_from-le : (image : List ℕ) (clauses at : ℕ) → clause_from image at clauses ≤ at + 65535 * clauses
 unfolding clause_from clause_next

@@ -5,7 +5,6 @@ ghost use Rattle.std.specs.Prelude.{◌≡◌, ◌+◌, ◌<◌};
 ghost use Rattle.model.specs.Decoding.{goal_next, goal_from, clause_from, clause_at};
 ghost use Rattle.model.specs.Goals.{clause_words, past_head, goal_place, goals_of, next_goal, child_goal};
 ghost use Rattle.model.specs.Steps.{goal_of, predicate_of};
-ghost use Rattle.goals.specs.Number.{goal_number};
 
 use model::FirstGoal;
 
@@ -26,19 +25,17 @@ fn past_head(words: &[u32], start: usize, most: u32) -> usize
     requires { start < 1099511627776 }
     ensures { result ≡ past_head most words.now start }
 {
-    let mut at = start;
-    let mut left = most;
-    while 0 < left {
+    let end = start + most as usize;
+    for at in start..end {
         if words::op(words::word_at(words, at)) == 9 {
             return at;
         }
-        at += 1;
-        left -= 1;
     }
-    at
+    end
 }
 
 // The place after a goal: its word and its arguments are passed.
+#[tactic(auto, unfolding(model::specs::Decoding::goal_next))]
 fn goal_next(image: &[u32], words: &[u32], at: usize) -> usize
     requires { at < 2251799813685248 }
     ensures { result ≡ goal_next image.now words.now at }
@@ -53,15 +50,14 @@ fn goal_from(image: &[u32], words: &[u32], start: usize, goals: u32) -> usize
     ensures { result ≡ goal_from image.now words.now start goals }
 {
     let mut at = start;
-    let mut left = goals;
-    while 0 < left {
+    for _ in 0..goals {
         at = goal_next(image, words, at);
-        left -= 1;
     }
     at
 }
 
 // The place of a clause's goal by its index.
+#[tactic(auto, unfolding(model::specs::Goals::goal_place))]
 pub fn goal_place(image: &[u32], words: &[u32], position: u32, index: u32) -> usize
     ensures { result ≡ goal_place image.now words.now position index }
 {
@@ -70,6 +66,7 @@ pub fn goal_place(image: &[u32], words: &[u32], position: u32, index: u32) -> us
 }
 
 // The place of a clause of a predicate, by following the clauses' lengths.
+#[tactic(auto, unfolding(model::specs::Decoding::clause_at))]
 pub fn clause_at(image: &[u32], predicate: u32, clause: u32) -> usize
     ensures { result ≡ clause_at image.now predicate clause }
 {
@@ -83,10 +80,8 @@ fn clause_from(image: &[u32], start: usize, clauses: u32) -> usize
     ensures { result ≡ clause_from image.now start clauses }
 {
     let mut at = start;
-    let mut left = clauses;
-    while 0 < left {
+    for _ in 0..clauses {
         at += words::clause_length(words::word_at(image, at)) as usize;
-        left -= 1;
     }
     at
 }
@@ -99,40 +94,7 @@ pub fn goals_of<'a>(image: &'a [u32], query: &'a [u32], nodes: &[u32], slot: u32
     words::goal_count(words::word_at(clause_words(image, query, nodes, slot), at))
 }
 
-// The goal behind the one at an index of a slot's clause, as one number: 0 where there is none, else one more than its index and 32 times its slot.
-// It climbs from frame to parent frame, depth falling. Lent by reference and answering a number, it compiles to a loop.
-fn climb<'a>(
-    image: &&'a [u32],
-    query: &&'a [u32],
-    nodes: &&[u32],
-    depth: u32,
-    slot: u32,
-    index: u32,
-) -> u64
-    requires { index < 16 }
-    ensures { result ≡ goal_number (next_goal depth image.now.now query.now.now nodes.now.now slot index) }
-{
-    if index + 1 < goals_of(*image, *query, *nodes, slot) {
-        return 32 * (slot as u64) + (index as u64) + 2;
-    }
-    if depth == 0 {
-        return 0;
-    }
-    if slot == ROOT {
-        return 0;
-    }
-    let above = memory::parent(*nodes, slot);
-    climb(
-        image,
-        query,
-        nodes,
-        depth - 1,
-        memory::frame(*nodes, above),
-        memory::goal_index(*nodes, above),
-    )
-}
-
-// The goal behind the one at an index of a slot's clause, read from the number that the climb answers.
+// The goal behind the one at an index of a slot's clause. It climbs from frame to parent frame: as often as the slot is deep, and no further than the root.
 fn next_goal<'a>(
     image: &'a [u32],
     query: &'a [u32],
@@ -141,20 +103,27 @@ fn next_goal<'a>(
     slot: u32,
     index: u32,
 ) -> FirstGoal
-    requires { index < 16 }
+    requires { (depth < 64) × (index < 16) }
     ensures { result ≡ next_goal depth image.now query.now nodes.now slot index }
 {
-    let found = climb(&image, &query, &nodes, depth, slot, index);
-    if found == 0 {
-        return FirstGoal::NoGoal;
+    let mut holder = slot;
+    let mut before = index;
+    for _ in 0..=depth {
+        if before + 1 < goals_of(image, query, nodes, holder) {
+            return Some((holder, before + 1));
+        }
+        if holder == ROOT {
+            return None;
+        }
+        let above = memory::parent(nodes, holder);
+        holder = memory::frame(nodes, above);
+        before = memory::goal_index(nodes, above);
     }
-    let place = found - 1;
-    let holder = (place / 32) as u32;
-    let which = (place % 32) as u32;
-    FirstGoal::Goal(holder, which)
+    None
 }
 
 // The first goal of a child with so many goals of its own, of a node whose first goal stands at an index of a slot's clause.
+#[tactic(auto, unfolding(model::specs::Goals::child_goal))]
 pub fn child_goal<'a>(
     image: &'a [u32],
     query: &'a [u32],
@@ -168,12 +137,13 @@ pub fn child_goal<'a>(
     ensures { result ≡ child_goal image.now query.now nodes.now child goals slot index }
 {
     if goals != 0 {
-        return FirstGoal::Goal(child, 0);
+        return Some((child, 0));
     }
     next_goal(image, query, nodes, memory::depth(nodes, slot), slot, index)
 }
 
 // The place of a node's first goal.
+#[tactic(auto, unfolding(model::specs::Steps::goal_of))]
 pub fn goal_of<'a>(image: &'a [u32], query: &'a [u32], nodes: &[u32], node: u32) -> usize
     ensures { result ≡ goal_of image.now query.now nodes.now node }
 {
@@ -188,6 +158,7 @@ pub fn goal_of<'a>(image: &'a [u32], query: &'a [u32], nodes: &[u32], node: u32)
 }
 
 // The predicate that a node's first goal calls.
+#[tactic(auto, unfolding(model::specs::Steps::predicate_of))]
 pub fn predicate_of<'a>(image: &'a [u32], query: &'a [u32], nodes: &[u32], node: u32) -> u32
     ensures { result ≡ predicate_of image.now query.now nodes.now node }
 {

@@ -2,15 +2,13 @@
 -- Where the page is silent: a REF is to a variable with a lower number than the variable that holds it; "on the path" is the path from the root to the slot that
 -- holds the cell or entry, that slot included, and the cell named is one of that slot's variables; "different along a path" holds inside one slot too;
 -- a worker's word of 64 or more is no slot. The lengths are right, image and query legal. Assumes nothing.
-use Rattle.std.specs.Prelude.{Bool, true, false, cond, not, ◌&&◌, ◌||◌, List, ℕ, zero, suc, ◌+◌, ◌-◌, ◌*◌, ◌/◌, ◌%◌, eqb, ltb, leb, get_or, replicate}
+use Rattle.std.specs.Prelude.{Bool, true, false, cond, not, ◌&&◌, ◌||◌, List, ℕ, zero, suc, ◌+◌, ◌-◌, ◌*◌, ◌/◌, ◌%◌, eqb, ltb, leb, get_or, replicate, Some, None}
 use Rattle.model.specs.declared.Kind.TheVariants.{Node0, Node1, Node2}
-use Rattle.model.specs.declared.FirstGoal.{FirstGoal}
-use Rattle.model.specs.declared.FirstGoal.TheVariants.{NoGoal, Goal}
 use Rattle.model.specs.Fields.{widths_of, field, clause_count, first_clause, variables, goal_count}
 use Rattle.model.specs.Image.{predicate_word}
 use Rattle.model.specs.Decoding.{clause_next}
 use Rattle.model.specs.Memory.{Memory, node_word, used, parent, depth, entries, own_variables, base, clause_position, has_goal, frame, goal_index, tried, vno_word, tag, value, cell_of, number_at, value_at, array_of}
-use Rattle.model.specs.Goals.{clause_words, child_goal}
+use Rattle.model.specs.Goals.{clause_words, child_goal, FirstGoal}
 use Rattle.model.specs.Steps.{predicate_of}
 use Rattle.model.specs.Moves.{installed, climbed}
 
@@ -60,7 +58,7 @@ clause_of image query nodes slot = get_or (clause_words image query nodes slot) 
 -- the first goal of a slot by the rules: the query's for the root, else its clause's, or the one behind the parent's
 unfoldable pub rule_goal : List ℕ → List ℕ → List ℕ → ℕ → FirstGoal
 rule_goal image query nodes slot =
-    cond (eqb slot 0) (Goal 0 0)
+    cond (eqb slot 0) (Some (0, 0))
     (child_goal image query nodes slot (goal_count (clause_of image query nodes slot)) (frame nodes (parent nodes slot)) (goal_index nodes (parent nodes slot)))
 
 -- "has goal, frame and index follow the rules; tried is at most the clause count, 0 without a goal"
@@ -73,8 +71,8 @@ with_goal image query nodes slot holder index =
     && leb (tried nodes slot) (clause_count (called_word image query nodes slot))
 
 unfoldable pub goal_sound : List ℕ → List ℕ → List ℕ → ℕ → FirstGoal → Bool
-goal_sound image query nodes slot NoGoal = without_goal nodes slot
-goal_sound image query nodes slot (Goal holder index) = with_goal image query nodes slot holder index
+goal_sound image query nodes slot None = without_goal nodes slot
+goal_sound image query nodes slot (Some (holder, index)) = with_goal image query nodes slot holder index
 
 -- "base is the parent's base plus the parent's variables"; the root's is judged above
 unfoldable pub base_sound : List ℕ → ℕ → Bool

@@ -1,11 +1,13 @@
 -- Where goals and clauses stand: document 01, "The steps", first paragraph, and "Frame and goal index name the node whose clause holds the first goal and its place there".
 -- Assumes nothing.
-use Rattle.std.specs.Prelude.{true, false, cond, List, ℕ, zero, suc, ◌+◌, eqb, ltb, get_or}
-use Rattle.model.specs.declared.FirstGoal.{FirstGoal}
-use Rattle.model.specs.declared.FirstGoal.TheVariants.{NoGoal, Goal}
+use Rattle.std.specs.Prelude.{true, false, cond, List, ℕ, zero, suc, ◌+◌, eqb, ltb, get_or, Option, Some, None}
 use Rattle.model.specs.Fields.{op, goal_count}
 use Rattle.model.specs.Decoding.{goal_from}
 use Rattle.model.specs.Memory.{parent, clause_position, frame, goal_index, depth}
+
+-- where a node's first goal stands, if it has one: the slot whose clause holds it, and its index there
+abbrev pub FirstGoal : Type 0
+FirstGoal = Option (ℕ × ℕ)
 
 -- the words that hold a slot's clause: the query's for the root, whose clause position is 0
 abbrev pub clause_words : List ℕ → List ℕ → List ℕ → ℕ → List ℕ
@@ -28,13 +30,13 @@ goals_of image query nodes slot = goal_count (get_or (clause_words image query n
 -- the goal behind the one at an index of a slot's clause, depth falling; behind the query's last goal there is none, however far the climb came at once
 unfoldable pub next_goal : ℕ → List ℕ → List ℕ → List ℕ → ℕ → ℕ → FirstGoal
 next_goal zero image query nodes slot index =
-    cond (ltb (index + 1) (goals_of image query nodes slot)) (Goal slot (index + 1)) NoGoal
+    cond (ltb (index + 1) (goals_of image query nodes slot)) (Some (slot, index + 1)) None
 next_goal (suc above) image query nodes slot index =
     elim (ltb (index + 1) (goals_of image query nodes slot)) [
-      | true ↦ Goal slot (index + 1)
+      | true ↦ Some (slot, index + 1)
       | false ↦
           elim (eqb slot 0) [
-            | true ↦ NoGoal
+            | true ↦ None
             | false ↦ next_goal above image query nodes (frame nodes (parent nodes slot)) (goal_index nodes (parent nodes slot))
           ]
     ]
@@ -42,4 +44,4 @@ next_goal (suc above) image query nodes slot index =
 -- the first goal of a child that a clause with so many goals makes, in a slot, of a node whose first goal stands at an index of a frame
 unfoldable pub child_goal : List ℕ → List ℕ → List ℕ → ℕ → ℕ → ℕ → ℕ → FirstGoal
 child_goal image query nodes child goals slot index =
-    cond (eqb goals 0) (next_goal (depth nodes slot) image query nodes slot index) (Goal child 0)
+    cond (eqb goals 0) (next_goal (depth nodes slot) image query nodes slot index) (Some (child, 0))

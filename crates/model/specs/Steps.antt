@@ -1,19 +1,15 @@
 -- A step of a worker and a run of steps, on words: document 01, "The steps", from "A node is live" on. A clause for each rule, in the page's order.
 -- Refusals stand in `Calls`. Assumes nothing.
-use Rattle.std.specs.Prelude.{Bool, true, false, cond, not, ◌&&◌, List, [], ◌∷◌, ℕ, zero, suc, ◌+◌, ◌*◌, eqb, ltb, leb, get_or, set}
+use Rattle.std.specs.Prelude.{Bool, true, false, cond, not, ◌&&◌, List, [], ◌∷◌, ℕ, zero, suc, ◌+◌, ◌*◌, eqb, ltb, leb, get_or, set, Some, None, Ok, Err}
 use Rattle.model.specs.declared.Kind.TheVariants.{Node0, Node1, Node2}
-use Rattle.model.specs.declared.FirstGoal.{FirstGoal}
-use Rattle.model.specs.declared.FirstGoal.TheVariants.{NoGoal, Goal}
-use Rattle.model.specs.declared.Unified.{Unified}
-use Rattle.model.specs.declared.Unified.TheVariants.{Yes, No}
 use Rattle.model.specs.declared.Outcome.{Outcome}
 use Rattle.model.specs.declared.Outcome.TheVariants.{Tried, Extended, Answer, Back, Left, Wait, Finished, Spent, Full}
 use Rattle.model.specs.Fields.{goal_predicate, arity, sequential, clause_count, variables, goal_count}
 use Rattle.model.specs.Image.{predicate_word}
 use Rattle.model.specs.Decoding.{clause_at}
 use Rattle.model.specs.Memory.{Memory, memory, used, parent, depth, entries, own_variables, base, clause_position, has_goal, frame, goal_index, tried, word_of, vno_word, first_of, array_of, with_array, cleared}
-use Rattle.model.specs.Goals.{clause_words, goal_place, child_goal}
-use Rattle.model.specs.Terms.{Store, unify_head}
+use Rattle.model.specs.Goals.{clause_words, goal_place, child_goal, FirstGoal}
+use Rattle.model.specs.Terms.{Store, unify_head, Unified}
 
 -- the memory as a worker has it: "its own array" in the place of all arrays
 pub record View : Type 0 where
@@ -113,13 +109,13 @@ laid (suc count) at number cells = laid count (at + 1) (number + 1) (set cells a
 
 -- node word 2 of a new node: "both are 0 without a goal"
 unfoldable pub goal_fields : FirstGoal → ℕ
-goal_fields NoGoal = word_of Node2 (0 ∷ 0 ∷ 0 ∷ 0 ∷ 0 ∷ [])
-goal_fields (Goal slot index) = word_of Node2 (1 ∷ slot ∷ index ∷ 0 ∷ 0 ∷ [])
+goal_fields None = word_of Node2 (0 ∷ 0 ∷ 0 ∷ 0 ∷ 0 ∷ [])
+goal_fields (Some (slot, index)) = word_of Node2 (1 ∷ slot ∷ index ∷ 0 ∷ 0 ∷ [])
 
 -- "Answer if it has no goal, else Extended"
 unfoldable pub arrival : FirstGoal → Outcome
-arrival NoGoal = Answer
-arrival (Goal slot index) = Extended
+arrival None = Answer
+arrival (Some (slot, index)) = Extended
 
 -- a child's four node words
 unfoldable pub grown : List ℕ → ℕ → ℕ → ℕ → ℕ → ℕ → FirstGoal → List ℕ
@@ -145,8 +141,8 @@ succeeded image v worker node child position count first =
 
 -- the end of rule 7, by how the head was unified
 unfoldable pub taken : Unified → List ℕ → List ℕ → View → ℕ → ℕ → ℕ → ℕ → Stepped
-taken (No count) image query v worker node child position = stepped Tried (failed image v node child position count)
-taken (Yes count) image query v worker node child position =
+taken (Err clash) image query v worker node child position = stepped Tried (failed image v node child position clash.0)
+taken (Ok count) image query v worker node child position =
     succeeded image v worker node child position count
     (child_goal image query v.nodes child (goal_count (get_or image position 0)) (frame v.nodes node) (goal_index v.nodes node))
 

@@ -1,13 +1,12 @@
 -- Dereferencing, binding and unifying in words: document 01, "Shared memory" on values and "The steps", "Unifying". Assumes nothing.
-use Rattle.std.specs.Prelude.{true, false, cond, List, ℕ, zero, suc, ◌+◌, eqb, ltb, get_or, set}
+use Rattle.std.specs.Prelude.{true, false, cond, List, ℕ, zero, suc, ◌+◌, eqb, ltb, get_or, set, Result, Ok, Err}
 use Rattle.model.specs.declared.VarNo.{VarNo}
 use Rattle.model.specs.declared.CellAddr.{CellAddr}
 use Rattle.model.specs.declared.Found.{Found}
 use Rattle.model.specs.declared.Found.TheVariants.{Unbound, Constant}
+use Rattle.model.specs.declared.Clash.{Clash as ClashAfter}
 use Rattle.model.specs.declared.Pairing.{Pairing}
 use Rattle.model.specs.declared.Pairing.TheVariants.{Nothing, Clash, Binds}
-use Rattle.model.specs.declared.Unified.{Unified}
-use Rattle.model.specs.declared.Unified.TheVariants.{Yes, No}
 use Rattle.model.specs.Fields.{op, variable_number, constant}
 use Rattle.model.specs.Memory.{tag, value, ref_word, con_word, cell_of, number_at, value_at}
 
@@ -40,6 +39,13 @@ unfoldable pub argument_of : List ℕ → List ℕ → ℕ → ℕ → Found
 argument_of array cells slot word =
     cond (eqb (op word) 1) (dereference 2048 array cells (cell_of slot (variable_number word))) (Constant (constant word))
 
+-- how unifying ends: with so many trail entries of the child, or in a clash after so many
+abbrev pub Unified : Type 0
+Unified = Result ℕ ClashAfter
+
+abbrev pub clash : ℕ → ClashAfter
+clash count = record { 0 = count }
+
 -- what unifying changes: the worker's array, the cells, the trail, and the entries that the child has so far
 pub record Store : Type 0 where
   pub array : List ℕ
@@ -55,8 +61,8 @@ store array cells trail unified = record { array = array; cells = cells; trail =
 unfoldable pub bind : ℕ → ℕ → List ℕ → List ℕ → List ℕ → ℕ → VarNo → CellAddr → ℕ → Store
 bind child child_base array cells trail count number address word =
     cond (ltb number.0 child_base)
-    (store (set array number.0 word) cells (set (set trail (number_at child count) number.0) (value_at child count) word) (Yes (count + 1)))
-    (store array (set cells address.0 word) trail (Yes count))
+    (store (set array number.0 word) cells (set (set trail (number_at child count) number.0) (value_at child count) word) (Ok (count + 1)))
+    (store array (set cells address.0 word) trail (Ok count))
 
 -- "one unbound variable with itself binds nothing; constants must be equal; an unbound variable takes the constant;
 -- of two, the one with the higher number takes a REF to the other"
@@ -67,8 +73,8 @@ pairing (Unbound number address) (Constant b) = Binds number address (con_word b
 pairing (Unbound n a) (Unbound m b) = cond (eqb n.0 m.0) Nothing (cond (ltb n.0 m.0) (Binds m b (ref_word a.0)) (Binds n a (ref_word b.0)))
 
 unfoldable pub unify_pair : ℕ → ℕ → List ℕ → List ℕ → List ℕ → ℕ → Pairing → Store
-unify_pair child child_base array cells trail count Nothing = store array cells trail (Yes count)
-unify_pair child child_base array cells trail count Clash = store array cells trail (No count)
+unify_pair child child_base array cells trail count Nothing = store array cells trail (Ok count)
+unify_pair child child_base array cells trail count Clash = store array cells trail (Err (clash count))
 unify_pair child child_base array cells trail count (Binds number address word) = bind child child_base array cells trail count number address word
 
 -- a head argument with a goal's argument, both dereferenced
@@ -78,12 +84,12 @@ unify_words child child_base slot head goal array cells trail count =
 
 -- the rest of a head is unified where the arguments before it were
 abbrev pub onwards : (List ℕ → List ℕ → List ℕ → ℕ → Store) → List ℕ → List ℕ → List ℕ → Unified → Store
-onwards next array cells trail (Yes count) = next array cells trail count
-onwards next array cells trail (No count) = store array cells trail (No count)
+onwards next array cells trail (Ok count) = next array cells trail count
+onwards next array cells trail (Err clash) = store array cells trail (Err clash)
 
 -- "head arguments are unified with the first goal's, left to right": so many, the head's from a place of the image on, the goal's from a place of its words on
 unfoldable pub unify_head : ℕ → List ℕ → List ℕ → ℕ → ℕ → ℕ → ℕ → ℕ → List ℕ → List ℕ → List ℕ → ℕ → Store
-unify_head zero image words child child_base slot head goal array cells trail count = store array cells trail (Yes count)
+unify_head zero image words child child_base slot head goal array cells trail count = store array cells trail (Ok count)
 unify_head (suc arity) image words child child_base slot head goal array cells trail count =
     let s = unify_words child child_base slot (get_or image head 0) (get_or words goal 0) array cells trail count in
     onwards (unify_head arity image words child child_base slot (head + 1) (goal + 1)) s.array s.cells s.trail s.unified

@@ -18,7 +18,7 @@ pub enum Kind {
 }
 
 // What is wrong with an image or a query: faults 1 to 17, in their order.
-#[derive(Clone, Copy)]
+#[derive(Clone, Copy, Debug, PartialEq, Eq)]
 pub enum Fault {
     EmptyImage,
     WrongEdition,
@@ -40,14 +40,14 @@ pub enum Fault {
 }
 
 // A fault, and the position at which the check met it.
-#[derive(Clone, Copy)]
+#[derive(Clone, Copy, Debug, PartialEq, Eq)]
 pub struct Met(pub Fault, pub usize);
 
 // Where the check stands: on, at a word and with so many variables seen in the clause; or stopped by a fault.
 pub type Walk = Result<(usize, u32), Met>;
 
 // Why a call is refused: a fault of the image; a fault of the query, whose numbers are its own; and what is wrong with a spread list or a room.
-#[derive(Clone, Copy)]
+#[derive(Clone, Copy, Debug, PartialEq, Eq)]
 pub enum Refusal {
     Image(Fault),
     Query(Fault),
@@ -63,7 +63,7 @@ pub enum Refusal {
 }
 
 // A refusal and its position.
-#[derive(Clone, Copy)]
+#[derive(Clone, Copy, Debug, PartialEq, Eq)]
 pub struct Refused(pub Refusal, pub usize);
 
 // What a check answers: legal, or the refusal.
@@ -90,12 +90,8 @@ pub enum Found {
     Constant(u32),
 }
 
-// Where a node's first goal stands: the slot whose clause holds it, and its place there.
-#[derive(Clone, Copy)]
-pub enum FirstGoal {
-    NoGoal,
-    Goal(u32, u32),
-}
+// Where a node's first goal stands, if it has one: the slot whose clause holds it, and its index there.
+pub type FirstGoal = Option<(u32, u32)>;
 
 // What unifying two dereferenced arguments comes to: nothing to do, a clash of constants, or a binding of a variable to a word.
 #[derive(Clone, Copy)]
@@ -105,15 +101,12 @@ pub enum Pairing {
     Binds(VarNo, CellAddr, u32),
 }
 
-// How unifying a pair of arguments, or a head, ends, and how many trail entries the child has then.
-#[derive(Clone, Copy)]
-pub enum Unified {
-    Yes(u32),
-    No(u32),
-}
+// How unifying a pair of arguments, or a head, failed: a clash of constants, when the child had so many trail entries.
+#[derive(Clone, Copy, Debug, PartialEq, Eq)]
+pub struct Clash(pub u32);
 
 // What a step or a run did. Document 01 gives the numbers in brackets.
-#[derive(Clone, Copy)]
+#[derive(Clone, Copy, Debug, PartialEq, Eq)]
 pub enum Outcome {
     Tried,
     Extended,

@@ -1,14 +1,14 @@
 -- A head that clashes fails, and taking its entries out again and clearing them gives array and trail back. Document 01, rule 7, "Failure". Assumes nothing.
 use Rattle.std.proofs.Common.{◌≡◌, refl, sym, ap, subst, ◌∙◌, inl, inr, Bool, true, false, cond, List, ℕ, zero, suc, ◌+◌, ◌*◌, ◌≤◌, ◌<◌, add-zero, zero-add, arith, eqb, ltb, length, get_or, set}
+use Rattle.std.proofs.Common.{Ok, Err}
 use Rattle.model.specs.declared.VarNo.{VarNo}
 use Rattle.model.specs.declared.CellAddr.{CellAddr}
 use Rattle.model.specs.declared.Found.{Found}
 use Rattle.model.specs.declared.Found.TheVariants.{Unbound, Constant}
 use Rattle.model.specs.declared.Pairing.TheVariants.{Nothing, Clash}
-use Rattle.model.specs.declared.Unified.TheVariants.{Yes, No}
 use Rattle.model.specs.Fields.{op, constant}
 use Rattle.model.specs.Memory.{tag, con_word, first_of, number_at, cleared}
-use Rattle.model.specs.Terms.{Store, store, bind, pairing, argument_of, unify_pair, unify_words, onwards, unify_head}
+use Rattle.model.specs.Terms.{Store, store, bind, pairing, argument_of, unify_pair, unify_words, onwards, unify_head, clash}
 use Rattle.model.specs.Steps.{undone}
 use Rattle.passing.specs.declared.Compared.{Compared}
 use Rattle.passing.specs.declared.Compared.TheVariants.{Differ, Agree, Unsure}
@@ -78,13 +78,13 @@ argument_of-constant array cells slot word e = simp e
 -- unifying failed, and its entries after so many can be undone
 abbrev Undoable : Store → ℕ → ℕ → List ℕ → List ℕ → List ℕ → Type 0
 Undoable result child count array cells trail =
-    (made : ℕ) × (array_next : List ℕ) × (trail_next : List ℕ) × (result ≡ store array_next cells trail_next (No (count + made)))
+    (made : ℕ) × (array_next : List ℕ) × (trail_next : List ℕ) × (result ≡ store array_next cells trail_next (Err (clash (count + made))))
     × (undone made trail_next (number_at child count) array_next ≡ array) × (cleared (2 * made) (number_at child count) trail_next ≡ trail)
 
 module _ (child count : ℕ) (array cells trail : List ℕ) where
-  undoable-clash : Undoable (store array cells trail (No count)) child count array cells trail
+  undoable-clash : Undoable (store array cells trail (Err (clash count))) child count array cells trail
   unfolding undone cleared
-  undoable-clash = (0, array, trail, ap (λ (n : ℕ). store array cells trail (No n)) (sym (add-zero count)), refl, refl)
+  undoable-clash = (0, array, trail, ap (λ (n : ℕ). store array cells trail (Err (clash n))) (sym (add-zero count)), refl, refl)
 
   -- an entry, and what was undoable after it
   undoable-entered : (number word arity : ℕ) (result : Store) → Blank (2 * suc arity) (number_at child count) trail → get_or array number 0 ≡ 0
@@ -96,7 +96,7 @@ module _ (child count : ℕ) (array cells trail : List ℕ) where
         suc u.0,
         u.1,
         u.2,
-        u.3 ∙ ap (λ (n : ℕ). store u.1 cells u.2 (No n)) (let e : count + 1 + u.0 ≡ count + suc u.0 = omega arith in e),
+        u.3 ∙ ap (λ (n : ℕ). store u.1 cells u.2 (Err (clash n))) (let e : count + 1 + u.0 ≡ count + suc u.0 = omega arith in e),
         undone-entry trail u.2 (number_at child count) number word u.0 later array u.1 (omega (arith, blank.0)) was (ap (λ (n : ℕ). undone u.0 u.2 n u.1) next ∙ u.4),
         cleared-entry trail u.2 (number_at child count) number word u.0 later first (blank.1 1 (omega arith)),
       )
@@ -121,8 +121,8 @@ module _ (child count : ℕ) (array cells trail : List ℕ) where
     after-undoable a (Unbound number address) rest same bound e = go (ltb number.0 child_base) e
       where
         go : (conditional? : Bool) → decided (cond conditional? Agree Unsure) rest ≡ true
-            → Undoable (after (cond conditional? (store (set array number.0 (con_word a)) cells (entered child count trail number.0 (con_word a)) (Yes (count + 1)))
-            (store array (set cells address.0 (con_word a)) trail (Yes count)))) child count array cells trail
+            → Undoable (after (cond conditional? (store (set array number.0 (con_word a)) cells (entered child count trail number.0 (con_word a)) (Ok (count + 1)))
+            (store array (set cells address.0 (con_word a)) trail (Ok count)))) child count array cells trail
         go true q = bound q number address refl
         go false q = let z : ◌≡◌ {A = ℕ} 0 1 = cc in absurd (omega arith)
 
@@ -157,7 +157,7 @@ pub clash-undone : (arity : ℕ) (image words : List ℕ) (child child_base slot
     → clashes arity image words array cells slot child_base head goal ≡ true → first_of child + 2 * arity ≤ length trail
     → ((k : ℕ) → k < 2 * arity → get_or trail (first_of child + k) 0 ≡ 0)
     → (count : ℕ) × (array_next : List ℕ) × (trail_next : List ℕ)
-    × (unify_head arity image words child child_base slot head goal array cells trail 0 ≡ store array_next cells trail_next (No count))
+    × (unify_head arity image words child child_base slot head goal array cells trail 0 ≡ store array_next cells trail_next (Err (clash count)))
     × (undone count trail_next (first_of child) array_next ≡ array) × (cleared (2 * count) (first_of child) trail_next ≡ trail)
 clash-undone arity image words child child_base slot head goal array cells trail e long blank =
     let first : number_at child 0 ≡ first_of child = add-zero (first_of child) in
@@ -165,7 +165,7 @@ clash-undone arity image words child child_base slot head goal array cells trail
       u.0,
       u.1,
       u.2,
-      u.3 ∙ ap (λ (n : ℕ). store u.1 cells u.2 (No n)) (zero-add u.0),
+      u.3 ∙ ap (λ (n : ℕ). store u.1 cells u.2 (Err (clash n))) (zero-add u.0),
       ap (λ (n : ℕ). undone u.0 u.2 n u.1) (sym first) ∙ u.4,
       ap (λ (n : ℕ). cleared (2 * u.0) n u.2) (sym first) ∙ u.5,
     )

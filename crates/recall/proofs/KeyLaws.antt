@@ -1,10 +1,5 @@
 -- A key names one goal, or one clause, so a place that is true of one naming is true of all. Assumes nothing.
-use mathlib.Core.Path.{◌≡◌, ap, ◌∙◌}
-use mathlib.Core.Bool.{cond}
-use mathlib.Core.List.{List}
-use Prim.Native.Nat.{ℕ, ◌<◌}
-use native.Mathlib.Omega.{arith}
-use lib.Dec.{eqb}
+use Rattle.std.proofs.Common.{◌≡◌, ap, ◌∙◌, cond, List, ℕ, ◌<◌, arith, eqb}
 use Rattle.model.specs.Decoding.{clause_at}
 use Rattle.model.specs.Goals.{goal_place}
 use Rattle.recall.specs.Places.{goal_key, clause_key, GoalTold, ClauseTold}

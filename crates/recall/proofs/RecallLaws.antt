@@ -1,24 +1,22 @@
 -- What is recalled is true, what is kept stays true, and of nothing all is true: of any keys and anything that is told of them. Assumes nothing.
-use mathlib.Core.Path.{◌≡◌, refl, sym, ap, subst, ◌∙◌}
-use mathlib.Core.Bool.{Bool, true, false, cond}
-use mathlib.Core.List.{List}
-use Prim.Native.Nat.{ℕ, ◌+◌, ◌*◌, ◌≤◌, ◌<◌}
-use native.Mathlib.Omega.{arith}
-use lib.Dec.{eqb, ltb}
-use lib.ListN.{length, length-set, set, get_or-eq_default}
-use lib.Seq.{get_or-set_same, get_or-set_other}
+use Rattle.std.proofs.Common.{◌≡◌, refl, sym, ap, subst, ◌∙◌, Bool, true, false, cond, List, Some, None, ℕ, ◌+◌, ◌*◌, ◌≤◌, ◌<◌, arith, eqb, ltb, length, length-set, set}
 use borrow.Author.Tests.{eqb-true, eqb-false, ltb-true, ltb-false}
+use Rattle.std.proofs.Math.ListN.{get_or-eq_default}
+use Rattle.std.proofs.Math.Seq.{get_or-set_same, get_or-set_other}
 use Rattle.memory.specs.Wiped.{Wiped}
 use Rattle.recall.specs.Recall.{key_at, found_at, recalled, kept, Recalls}
 
 module _ (tells : ℕ → ℕ → Type 0) (memo : List ℕ) where
-  pub recall-true : (slot key : ℕ) → Recalls tells memo → (recalled memo slot key ≡ 0 → ⊥) → tells key (recalled memo slot key)
+  pub recall-true : (slot key found : ℕ) → Recalls tells memo → recalled memo slot key ≡ Some found → tells key found
   unfolding recalled
-  recall-true slot key told some = go (eqb (key_at memo slot) key) refl some
+  recall-true slot key found told is = go (eqb (key_at memo slot) key) refl (eqb (found_at memo slot) 0) refl is
     where
-      go : (b : Bool) → eqb (key_at memo slot) key ≡ b → (cond b (found_at memo slot) 0 ≡ 0 → ⊥) → tells key (cond b (found_at memo slot) 0)
-      go true q r = subst (λ (k : ℕ). tells k (found_at memo slot)) (eqb-true (key_at memo slot) key q) (told slot r)
-      go false q r = absurd (r refl)
+      go : (b : Bool) → eqb (key_at memo slot) key ≡ b → (z : Bool) → eqb (found_at memo slot) 0 ≡ z → cond b (cond z None (Some (found_at memo slot))) None ≡ Some found → tells key found
+      go true q true r e = absurd (cc)
+      go true q false r e =
+          let same : found_at memo slot ≡ found = cc in
+          subst (λ (k : ℕ). tells k found) (eqb-true (key_at memo slot) key q) (subst (λ (f : ℕ). tells (key_at memo slot) f) same (told slot (eqb-false (found_at memo slot) 0 r)))
+      go false q z r e = absurd (cc)
 
   -- where nothing was found, all that was found is true
   pub nothing-kept : Wiped memo → Recalls tells memo

@@ -7,17 +7,22 @@ ghost use Rattle.model.specs.Steps.{goal_of};
 ghost use Rattle.recall.specs.Recall.{recalled, kept};
 ghost use Rattle.recall.specs.Places.{GoalsKept, ClausesKept};
 
-// What was found before for a slot and a key, 0 if nothing.
-fn recall(memo: &[u32], slot: u32, key: u32) -> u32
+// What was found before for a slot and a key, if anything. A place of 0 is none: the query's word and the image's header stand there.
+#[tactic(auto, unfolding(crate::specs::Recall::recalled))]
+fn recall(memo: &[u32], slot: u32, key: u32) -> Option<u32>
     ensures { result ≡ recalled memo.now slot key }
 {
     let at = 2 * slot as usize;
     if words::word_at(memo, at) != key {
-        return 0;
+        return None;
     }
-    words::word_at(memo, at + 1)
+    match words::word_at(memo, at + 1) {
+        0 => None,
+        found => Some(found),
+    }
 }
 
+#[tactic(auto, unfolding(crate::specs::Recall::kept))]
 fn keep(memo: &mut [u32], slot: u32, key: u32, found: u32)
     ensures { memo.new ≡ kept memo.old slot key found }
 {
@@ -39,9 +44,8 @@ pub fn goal_place<'a>(
 {
     let slot = memory::frame(nodes, node);
     let key = 16 * memory::clause_position(nodes, slot) + memory::goal_index(nodes, node);
-    let known = recall(places, node, key);
-    if known != 0 {
-        return known as usize;
+    if let Some(place) = recall(places, node, key) {
+        return place as usize;
     }
     let place = goals::goal_of(image, query, nodes, node);
     keep(places, node, key, place as u32);
@@ -53,9 +57,8 @@ pub fn clause_place(image: &[u32], clauses: &[u32], node: u32, predicate: u32, c
     requires { ClausesKept image.now clauses.now × (predicate < 1024) × (clause < 1024) }
     ensures { result ≡ clause_at image.now predicate clause }
 {
-    let known = recall(clauses, node, 1024 * predicate + clause);
-    if known != 0 {
-        return known;
+    if let Some(place) = recall(clauses, node, 1024 * predicate + clause) {
+        return place;
     }
     goals::clause_at(image, predicate, clause) as u32
 }

@@ -5,7 +5,7 @@ ghost use Rattle.std.specs.Prelude.{◌≡◌, ◌+◌, ◌≤◌, ◌<◌, get_
 ghost use Rattle.model.specs.Memory.{cell_of};
 ghost use Rattle.model.specs.Terms.{says, found_said, dereference, argument_of, store, bind, pairing, unify_pair, unify_words, unify_head};
 
-use model::{CellAddr, Found, Pairing, Unified, VarNo};
+use model::{CellAddr, Clash, Found, Pairing, VarNo};
 
 // What a cell says where nothing is bound there.
 const UNBOUND: u32 = 0;
@@ -22,6 +22,7 @@ fn says(array: &[u32], cells: &[u32], at: CellAddr) -> u32
 }
 
 // Where what a cell says is no REF.
+#[tactic(auto, unfolding(model::specs::Terms::found_said))]
 fn found(cells: &[u32], said: u32, at: CellAddr) -> Found
     ensures { result ≡ found_said cells.now said at.0 }
 {
@@ -32,23 +33,23 @@ fn found(cells: &[u32], said: u32, at: CellAddr) -> Found
     Found::Unbound(VarNo(number), at)
 }
 
+// What a cell leads to. A REF is to a lower number, so there are at most as many as numbers; past them there would be no answer.
 pub fn dereference(array: &[u32], cells: &[u32], start: CellAddr) -> Found
     ensures { result ≡ dereference 2048 array.now cells.now start.0 }
 {
-    let mut at = start.0;
-    let mut left: u32 = 2048;
-    while 0 < left {
-        let said = says(array, cells, CellAddr(at));
+    let mut at = start;
+    for _ in 0..2048_u32 {
+        let said = says(array, cells, at);
         if words::tag(said) != 1 {
-            return found(cells, said, CellAddr(at));
+            return found(cells, said, at);
         }
-        at = words::value(said);
-        left -= 1;
+        at = CellAddr(words::value(said));
     }
     Found::Constant(0)
 }
 
 // An argument word of a slot's clause, dereferenced.
+#[tactic(auto, unfolding(model::specs::Terms::argument_of))]
 pub fn argument_of(array: &[u32], cells: &[u32], slot: u32, word: u32) -> Found
     requires { slot < 65536 }
     ensures { result ≡ argument_of array.now cells.now slot word }
@@ -61,6 +62,7 @@ pub fn argument_of(array: &[u32], cells: &[u32], slot: u32, word: u32) -> Found
 }
 
 // Binds a variable that was found unbound, for a child in a slot: into array and trail where it is conditional, else into its cell.
+#[tactic(auto, unfolding(model::specs::Terms::bind))]
 fn bind(
     array: &mut [u32],
     cells: &mut [u32],
@@ -71,54 +73,46 @@ fn bind(
     number: VarNo,
     address: CellAddr,
     word: u32,
-) -> Unified
+) -> Result<u32, Clash>
     requires { count < 65536 }
     ensures { store array.new cells.new trail.new result ≡ bind child child_base array.old cells.old trail.old count number address word }
 {
     if child_base <= number.0 {
         words::put(cells, address.0 as usize, word);
-        return Unified::Yes(count);
+        return Ok(count);
     }
     let at = 32 * child as usize + 2 * count as usize;
     words::put(array, number.0 as usize, word);
     words::put(trail, at, number.0);
     words::put(trail, at + 1, word);
-    Unified::Yes(count + 1)
+    Ok(count + 1)
 }
 
 // What unifying two dereferenced arguments comes to, by their cases.
+#[tactic(auto, unfolding(model::specs::Terms::pairing))]
 fn pairing(a: Found, b: Found) -> Pairing
     ensures { result ≡ pairing a b }
 {
-    match a {
-        Found::Constant(x) => match b {
-            Found::Constant(y) => {
-                if x == y {
-                    return Pairing::Nothing;
-                }
-                Pairing::Clash
-            }
-            Found::Unbound(number, address) => Pairing::Binds(
-                number,
-                address,
-                memory::value_word(2, x),
-            ),
-        },
-        Found::Unbound(n, at) => match b {
-            Found::Constant(y) => Pairing::Binds(n, at, memory::value_word(2, y)),
-            Found::Unbound(m, other) => {
-                if n.0 == m.0 {
-                    return Pairing::Nothing;
-                }
-                if n.0 < m.0 {
-                    return Pairing::Binds(m, other, memory::value_word(1, at.0));
-                }
-                Pairing::Binds(n, at, memory::value_word(1, other.0))
-            }
-        },
+    match (a, b) {
+        (Found::Constant(x), Found::Constant(y)) if x == y => Pairing::Nothing,
+        (Found::Constant(_), Found::Constant(_)) => Pairing::Clash,
+        (Found::Constant(x), Found::Unbound(n, at)) => {
+            Pairing::Binds(n, at, memory::value_word(2, x))
+        }
+        (Found::Unbound(n, at), Found::Constant(y)) => {
+            Pairing::Binds(n, at, memory::value_word(2, y))
+        }
+        (Found::Unbound(n, _), Found::Unbound(m, _)) if n.0 == m.0 => Pairing::Nothing,
+        (Found::Unbound(n, at), Found::Unbound(m, other)) if n.0 < m.0 => {
+            Pairing::Binds(m, other, memory::value_word(1, at.0))
+        }
+        (Found::Unbound(n, at), Found::Unbound(_, other)) => {
+            Pairing::Binds(n, at, memory::value_word(1, other.0))
+        }
     }
 }
 
+#[tactic(auto, unfolding(model::specs::Terms::unify_pair))]
 fn unify_pair(
     array: &mut [u32],
     cells: &mut [u32],
@@ -127,13 +121,13 @@ fn unify_pair(
     child_base: u32,
     count: u32,
     pair: Pairing,
-) -> Unified
+) -> Result<u32, Clash>
     requires { count < 65536 }
     ensures { store array.new cells.new trail.new result ≡ unify_pair child child_base array.old cells.old trail.old count pair }
 {
     match pair {
-        Pairing::Nothing => Unified::Yes(count),
-        Pairing::Clash => Unified::No(count),
+        Pairing::Nothing => Ok(count),
+        Pairing::Clash => Err(Clash(count)),
         Pairing::Binds(number, address, word) => bind(
             array, cells, trail, child, child_base, count, number, address, word,
         ),
@@ -141,6 +135,7 @@ fn unify_pair(
 }
 
 // A head argument with a goal's argument, both dereferenced.
+#[tactic(auto, unfolding(model::specs::Terms::unify_words))]
 fn unify_words(
     array: &mut [u32],
     cells: &mut [u32],
@@ -151,7 +146,7 @@ fn unify_words(
     head: u32,
     goal: u32,
     count: u32,
-) -> Unified
+) -> Result<u32, Clash>
     requires { (child < 65536) × (slot < 65536) × (count < 65536) }
     ensures { store array.new cells.new trail.new result ≡ unify_words child child_base slot head goal array.old cells.old trail.old count }
 {
@@ -174,28 +169,17 @@ pub fn unify_head(
     head: usize,
     goal: usize,
     arity: u32,
-) -> Unified
+) -> Result<u32, Clash>
     requires { (child < 65536) × (slot < 65536) × (head < 1099511627776) × (goal < 1099511627776) × (arity < 65536) }
     ensures { store array.new cells.new trail.new result ≡ unify_head arity image.now words.now child child_base slot head goal array.old cells.old trail.old 0 }
 {
-    let mut k: usize = 0;
-    let mut left = arity;
     let mut count: u32 = 0;
-    while 0 < left {
-        let ours = words::word_at(image, head + k);
-        let theirs = words::word_at(words, goal + k);
-        match unify_words(
+    for k in 0..arity {
+        let ours = words::word_at(image, head + k as usize);
+        let theirs = words::word_at(words, goal + k as usize);
+        count = unify_words(
             array, cells, trail, child, child_base, slot, ours, theirs, count,
-        ) {
-            Unified::Yes(n) => {
-                count = n;
-            }
-            Unified::No(n) => {
-                return Unified::No(n);
-            }
-        }
-        k += 1;
-        left -= 1;
+        )?;
     }
-    Unified::Yes(count)
+    Ok(count)
 }

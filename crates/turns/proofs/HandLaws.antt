@@ -1,9 +1,9 @@
 -- What one turn of a run leaves of the first node words: all of them while clauses are passed over, else all but one slot's. So a table of children can follow. Assumes nothing.
 use Rattle.std.proofs.Common.{◌≡◌, refl, sym, ap, subst, ◌∙◌, Bool, true, false, cond, List, [], ◌∷◌, ℕ, zero, suc, ◌+◌, ◌-◌, ◌*◌, ◌≤◌, ◌<◌, min, arith, get_or, set, get_or-set_other}
+use Rattle.std.proofs.Common.{Ok, Err}
 use Rattle.model.specs.declared.Kind.TheVariants.{Node2, Goal}
 use Rattle.model.specs.declared.Outcome.{Outcome}
-use Rattle.model.specs.declared.Unified.{Unified}
-use Rattle.model.specs.declared.Unified.TheVariants.{Yes, No}
+use Rattle.model.specs.Terms.{Unified}
 use Rattle.model.specs.Fields.{widths_of, clause_length, arity, clause_count, first_clause}
 use Rattle.model.specs.Image.{predicate_word}
 use Rattle.model.specs.Decoding.{clause_next, clause_from, clause_at}
@@ -112,8 +112,8 @@ module _ (nodes : List ℕ) (child slot a b c d : ℕ) (other : slot ≡ child �
 module _ (image query : List ℕ) (worker node child position : ℕ) where
   taken-agrees : (unified : Unified) (v : View) → Agree child v.nodes (taken unified image query v worker node child position).after.nodes
   unfolding taken failed succeeded grown
-  taken-agrees (No count) v slot other = raised-same v.nodes node slot
-  taken-agrees (Yes count) v slot other = raised-same v.nodes node slot ∙ four-other (raised v.nodes node) child slot _ _ _ _ other
+  taken-agrees (Err clash) v slot other = raised-same v.nodes node slot
+  taken-agrees (Ok count) v slot other = raised-same v.nodes node slot ∙ four-other (raised v.nodes node) child slot _ _ _ _ other
 
 pub take-agrees : (image query : List ℕ) (v : View) (worker node child : ℕ) → Agree child v.nodes (take_clause image query v worker node child).after.nodes
 unfolding take_clause

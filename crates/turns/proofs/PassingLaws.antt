@@ -1,14 +1,14 @@
 -- Each clause that is passed over is a step that says Tried and changes the tried count alone; so many of them are so many steps of a run. Document 01, rule 7. Assumes nothing.
 use Rattle.std.proofs.Common.{◌≡◌, refl, sym, ap, ap₂, subst, ◌∙◌, Bool, true, false, cond, ◌&&◌, List, ℕ, zero, suc, ◌+◌, ◌*◌, ◌≤◌, ◌<◌, arith, add-zero, eqb, leb, length, get_or, eqb-true}
 use borrow.Author.Tests.{lt-leb}
+use Rattle.std.proofs.Common.{Err}
 use Rattle.model.specs.declared.Outcome.TheVariants.{Tried}
-use Rattle.model.specs.declared.Unified.TheVariants.{No}
 use Rattle.model.specs.Fields.{arity, sequential, clause_count, first_clause, variables, clause_length}
 use Rattle.model.specs.Image.{predicate_word}
 use Rattle.model.specs.Decoding.{clause_at}
 use Rattle.model.specs.Memory.{base, own_variables, has_goal, frame, tried, first_of, cleared}
 use Rattle.model.specs.Goals.{clause_words}
-use Rattle.model.specs.Terms.{unify_head}
+use Rattle.model.specs.Terms.{unify_head, clash}
 use Rattle.model.specs.Steps.{view, stepped, goal_of, predicate_of, has_child, lowest_free, laid, raised, take_clause, step}
 use Rattle.passing.specs.Clash.{clashes, fails_plainly}
 use Rattle.passing.specs.Passing.{Passing, passing, pass_over}
@@ -101,7 +101,7 @@ module _ (image query workers words : List ℕ) (worker node child slot child_ba
         aim.frames aim.holds aim.placed refl refl ground.0 aim.counts refl in
         let failure =
         failure-from image nodes cells undo.2 undo.1 node child position undo.0 0 (raised nodes node) cells trail array ground.0 refl refl (sym undo.5) (sym undo.4) in
-        let taken = take-failed image query nodes cells trail array workers worker node child predicate position aim.calls at undo.1 cells undo.2 (No undo.0) headed undo.0
+        let taken = take-failed image query nodes cells trail array workers worker node child predicate position aim.calls at undo.1 cells undo.2 (Err (clash undo.0)) headed undo.0
         (raised nodes node) cells trail array refl failure in
         taken ∙ take_step cells trail array nodes aim untried
 

@@ -1,6 +1,6 @@
 -- A head unified, argument by argument: its entries taken out of the array and cleared from the trail, and the child's own cells cleared, give back what was there.
 -- It holds of every head, whether it fails or not. Document 01, rule 7, "Failure". Assumes nothing.
-use Rattle.std.specs.Prelude.{◌≡◌, Bool, cond, List, get_or, set}
+use Rattle.std.specs.Prelude.{◌≡◌, Bool, cond, List, get_or, set, Ok, Err}
 use Rattle.std.proofs.Math.Path.{refl, sym}
 use Rattle.std.proofs.Common.{ap, subst, ◌∙◌, add-zero, arith}
 use Rattle.std.proofs.Math.Logic.{⊎_elim}
@@ -10,11 +10,9 @@ use Rattle.std.proofs.Math.Dec.{ltb}
 use borrow.Author.Tests.{ltb-false}
 use Rattle.model.specs.declared.Pairing.{Pairing}
 use Rattle.model.specs.declared.Pairing.TheVariants.{Nothing, Clash, Binds}
-use Rattle.model.specs.declared.Unified.{Unified}
-use Rattle.model.specs.declared.Unified.TheVariants.{Yes, No}
 use Rattle.model.specs.Fields.{op, variable_number}
 use Rattle.model.specs.Memory.{first_of, cell_of, number_at, cleared}
-use Rattle.model.specs.Terms.{Store, store, bind, pairing, argument_of, unify_pair, unify_words, onwards, unify_head}
+use Rattle.model.specs.Terms.{Store, store, bind, pairing, argument_of, unify_pair, unify_words, onwards, unify_head, Unified, clash}
 use Rattle.model.specs.Steps.{undone}
 use Rattle.terms.proofs.HeadLaws.{counted}
 use Rattle.passing.proofs.UndoLaws.{cleared-entry, undone-entry, Blank, blank-less, entered, blank-entered}
@@ -92,12 +90,12 @@ module _ (child own : ℕ) where
           → Undoable (after (unify_pair child child_base array cells trail count pair)) count array cells trail
       unfolding unify_pair bind
       after-undoable Nothing well = rest array cells trail count kept (blank-less arity (number_at child count) trail blank)
-      after-undoable Clash well = undoable-none count array cells trail (No count) refl
+      after-undoable Clash well = undoable-none count array cells trail (Err (clash count)) refl
       after-undoable (Binds number address word) well = go (ltb number.0 child_base) refl
         where
           go : (conditional? : Bool) → ltb number.0 child_base ≡ conditional?
-              → Undoable (after (cond conditional? (store (set array number.0 word) cells (entered child count trail number.0 word) (Yes (count + 1)))
-              (store array (set cells address.0 word) trail (Yes count)))) count array cells trail
+              → Undoable (after (cond conditional? (store (set array number.0 word) cells (entered child count trail number.0 word) (Ok (count + 1)))
+              (store array (set cells address.0 word) trail (Ok count)))) count array cells trail
           go true q =
               undoable-entered count array cells trail number.0 word arity (next (set array number.0 word) cells (entered child count trail number.0 word) (count + 1)) blank well.0.0
               (rest (set array number.0 word) cells (entered child count trail number.0 word) (count + 1)
@@ -112,7 +110,7 @@ module _ (child own : ℕ) where
         → (array cells trail : List ℕ) (count : ℕ) → Kept Known (OwnCell child own) child_base array cells → Blank (2 * arity) (number_at child count) trail
         → Undoable (unify_head arity image words child child_base slot head goal array cells trail count) count array cells trail
     unfolding unify_head unify_words
-    unify_head-undoable image words slot zero head goal ours theirs array cells trail count kept blank = undoable-none count array cells trail (Yes count) refl
+    unify_head-undoable image words slot zero head goal ours theirs array cells trail count kept blank = undoable-none count array cells trail (Ok count) refl
     unify_head-undoable image words slot (suc arity) head goal ours theirs array cells trail count kept blank =
         let mine = argument_of-well Known (OwnCell child own) child_base array cells kept child (get_or image head 0) (argument-first Known child image head arity ours) in
         let called = argument_of-well Known (OwnCell child own) child_base array cells kept slot (get_or words goal 0) (argument-first Known slot words goal arity theirs) in

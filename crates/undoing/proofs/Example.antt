@@ -1,11 +1,10 @@
 -- What `Ready` asks can be had, and a failure can come late: a head p(X, c5, X) against a goal p(V, V, c7) of the root. X takes a REF to V's cell,
 -- V takes c5 by an entry of the child's trail, and X is c5 then, not c7. Document 01, rule 7, "Failure". Assumes nothing.
-use Rattle.std.specs.Prelude.{◌≡◌, refl, List, [], ◌∷◌, ℕ, zero, suc, ◌+◌, ◌<◌, get_or, replicate}
+use Rattle.std.specs.Prelude.{◌≡◌, refl, List, [], ◌∷◌, ℕ, zero, suc, ◌+◌, ◌<◌, get_or, replicate, Err}
 use Rattle.std.proofs.Common.{sym, subst, inl, arith}
-use Rattle.model.specs.declared.Unified.TheVariants.{No}
 use Rattle.model.specs.Fields.{widths_of, total, below, field, join, op, variable_number}
 use Rattle.model.specs.Memory.{cut_to, word_of, cell_of, cleared}
-use Rattle.model.specs.Terms.{Store, found_said, dereference, argument_of, bind, pairing, unify_pair, unify_words, unify_head}
+use Rattle.model.specs.Terms.{Store, found_said, dereference, argument_of, bind, pairing, unify_pair, unify_words, unify_head, clash}
 use Rattle.model.specs.Steps.{undone, laid}
 use Rattle.undoing.specs.Failure.{PathCell, Ready}
 use Rattle.undoing.proofs.Failure.{failure-undone}
@@ -68,7 +67,7 @@ example-ready = record {
 abbrev failed_store : Store
 failed_store = unify_head 3 head_words goal_words 1 1 0 0 0 (replicate 2 0) (laid 1 32 1 (replicate 64 0)) (replicate 64 0) 0
 
-pub example-fails : (failed_store.unified ≡ No 1) × (failed_store.array ≡ 0x40000005 ∷ 0 ∷ []) × (get_or failed_store.cells 32 0 ≡ 0x20000000) × (get_or failed_store.trail 33 0 ≡ 0x40000005)
+pub example-fails : (failed_store.unified ≡ Err (clash 1)) × (failed_store.array ≡ 0x40000005 ∷ 0 ∷ []) × (get_or failed_store.cells 32 0 ≡ 0x20000000) × (get_or failed_store.trail 33 0 ≡ 0x40000005)
 unfolding field widths_of below total join cut_to word_of found_said dereference argument_of bind pairing unify_pair unify_words unify_head laid
 example-fails = (refl, refl, refl, refl)
 

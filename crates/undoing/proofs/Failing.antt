@@ -2,20 +2,16 @@
 -- Document 01, "The steps", rules 1 to 7. Assumes nothing.
 use Rattle.std.proofs.Math.Path.{◌≡◌, refl, ap}
 use Rattle.std.proofs.Common.{◌∙◌}
-use Rattle.std.specs.Prelude.{Bool, ◌&&◌, List, ℕ, zero, suc, ◌+◌, ◌<◌, eqb, leb, get_or}
+use Rattle.std.specs.Prelude.{Bool, ◌&&◌, List, ℕ, zero, suc, ◌+◌, ◌<◌, eqb, leb, get_or, Some, None, Ok, Err}
 use Rattle.std.proofs.Math.Bool.{true, false}
 use native.Mathlib.Omega.{arith}
 use borrow.Author.Tests.{eqb-false, leb-false}
-use Rattle.model.specs.declared.FirstGoal.{FirstGoal}
-use Rattle.model.specs.declared.FirstGoal.TheVariants.{NoGoal, Goal}
 use Rattle.model.specs.declared.Outcome.TheVariants.{Tried}
-use Rattle.model.specs.declared.Unified.{Unified}
-use Rattle.model.specs.declared.Unified.TheVariants.{Yes, No}
 use Rattle.model.specs.Fields.{sequential, goal_count}
 use Rattle.model.specs.Image.{predicate_word}
 use Rattle.model.specs.Memory.{used, frame, goal_index}
-use Rattle.model.specs.Goals.{child_goal}
-use Rattle.model.specs.Terms.{Store}
+use Rattle.model.specs.Goals.{child_goal, FirstGoal}
+use Rattle.model.specs.Terms.{Store, Unified, clash}
 use Rattle.model.specs.Steps.{View, Stepped, predicate_of, live, has_child, another_there, free_from, lowest_free, dead_rule, arrival, failed, succeeded, taken, with_store, head_store, take_clause, live_rule, node_rule, step}
 use Rattle.undoing.specs.Failing.{clause_taken}
 
@@ -47,7 +43,7 @@ module _ (image query : List ℕ) (v : View) (worker : ℕ) where
     pub lively : live image query v.nodes stands_at ≡ true
     pub room : lowest_free v.nodes < 64
     pub count : ℕ
-    pub fails : head_tried.unified ≡ No count
+    pub fails : head_tried.unified ≡ Err (clash count)
     pub leaves : (step image query v worker).after ≡ failed image (with_store v head_tried) stands_at (lowest_free v.nodes) (clause_taken image query v.nodes stands_at) count
 
   -- rules 1 to 4
@@ -60,20 +56,20 @@ module _ (image query : List ℕ) (v : View) (worker : ℕ) where
 
   arrival-says : (first : FirstGoal) → arrival first ≡ Tried → ⊥
   unfolding arrival
-  arrival-says NoGoal e = let z : ◌≡◌ {A = ℕ} 0 1 = cc in omega arith
-  arrival-says (Goal slot index) e = let z : ◌≡◌ {A = ℕ} 0 1 = cc in omega arith
+  arrival-says None e = let z : ◌≡◌ {A = ℕ} 0 1 = cc in omega arith
+  arrival-says (Some (slot, index)) e = let z : ◌≡◌ {A = ℕ} 0 1 = cc in omega arith
 
   -- the end of rule 7
   taken-says : (unified : Unified) (w : View) (node child position : ℕ) → (taken unified image query w worker node child position).outcome ≡ Tried
-      → (count : ℕ) × (unified ≡ No count) × ((taken unified image query w worker node child position).after ≡ failed image w node child position count)
+      → (count : ℕ) × (unified ≡ Err (clash count)) × ((taken unified image query w worker node child position).after ≡ failed image w node child position count)
   unfolding taken succeeded
-  taken-says (No count) w node child position e = (count, refl, refl)
-  taken-says (Yes count) w node child position e =
+  taken-says (Err clash) w node child position e = (clash.0, refl, refl)
+  taken-says (Ok count) w node child position e =
       absurd (arrival-says (child_goal image query w.nodes child (goal_count (get_or image position 0)) (frame w.nodes node) (goal_index w.nodes node)) e)
 
   -- rules 5 to 7
   live-says : (waits full : Bool) → (live_rule waits full image query v worker stands_at).outcome ≡ Tried
-      → (full ≡ false) × ((count : ℕ) × (head_tried.unified ≡ No count)
+      → (full ≡ false) × ((count : ℕ) × (head_tried.unified ≡ Err (clash count))
       × ((live_rule waits full image query v worker stands_at).after ≡ failed image (with_store v head_tried) stands_at (lowest_free v.nodes) (clause_taken image query v.nodes stands_at) count))
   unfolding live_rule take_clause
   live-says true full e = let z : ◌≡◌ {A = ℕ} 0 1 = cc in absurd (omega arith)

@@ -1,11 +1,10 @@
 -- A head that fails leaves nothing behind. Document 01, rule 7: "Failure: Tried; only that count has changed."
 -- For every head, variables included: taking its entries out of the array, clearing them from the trail and clearing the child's cells gives all three back.
 -- Assumes nothing.
-use Rattle.std.specs.Prelude.{◌≡◌, ◌⊎◌, List, ℕ, ◌+◌, ◌-◌, ◌*◌, ◌<◌, get_or}
+use Rattle.std.specs.Prelude.{◌≡◌, ◌⊎◌, List, ℕ, ◌+◌, ◌-◌, ◌*◌, ◌<◌, get_or, Err}
 use Rattle.std.proofs.Common.{sym, ap, subst, ◌∙◌, inl, inr, add-zero, zero-add, arith}
-use Rattle.model.specs.declared.Unified.TheVariants.{No}
 use Rattle.model.specs.Memory.{tag, value, vno_word, first_of, number_at, cleared}
-use Rattle.model.specs.Terms.{Store, unify_head}
+use Rattle.model.specs.Terms.{Store, unify_head, clash}
 use Rattle.model.specs.Steps.{undone, laid}
 use Rattle.terms.proofs.HeadLaws.{counted}
 use Rattle.paths.proofs.Values.{zero-tag, vno-fields}
@@ -69,7 +68,7 @@ module _ (Reach : ℕ → Type 0) (image words : List ℕ) (child child_base slo
 
   -- "Failure: Tried; only that count has changed"
   pub failure-undone : (s : Store) (count : ℕ) → unify_head arity image words child child_base slot head goal array (laid own (first_of child) child_base cells) trail 0 ≡ s
-      → s.unified ≡ No count
+      → s.unified ≡ Err (clash count)
       → (undone count s.trail (first_of child) s.array ≡ array) × (cleared own (first_of child) s.cells ≡ cells) × (cleared (2 * count) (first_of child) s.trail ≡ trail)
   failure-undone s count e failed =
       let back = head-undone s e in

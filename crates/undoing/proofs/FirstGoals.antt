@@ -1,6 +1,6 @@
 -- A first goal's index is below the goals of the clause that holds it, and its count of tried clauses at most its predicate's: document 01, "Refused calls",
 -- condition 21, "has goal, frame and index follow the rules; tried is at most the clause count". Of the check it needs that a legal query has a goal. Assumes nothing.
-use Rattle.std.specs.Prelude.{◌≡◌, Bool, cond, List, leb, get_or}
+use Rattle.std.specs.Prelude.{◌≡◌, Bool, cond, List, leb, get_or, Some, None}
 use Rattle.std.proofs.Math.Path.{refl, subst}
 use Rattle.std.proofs.Common.{sym, Ok}
 use Rattle.std.proofs.Math.Bool.{true, false}
@@ -8,13 +8,11 @@ use Prim.Native.Nat.{ℕ, zero, suc, ◌+◌, ◌<◌}
 use native.Mathlib.Omega.{arith}
 use Rattle.std.proofs.Math.Dec.{eqb, ltb}
 use borrow.Author.Tests.{eqb-true, eqb-false, ltb-true, leb-true}
-use Rattle.model.specs.declared.FirstGoal.{FirstGoal}
-use Rattle.model.specs.declared.FirstGoal.TheVariants.{NoGoal, Goal}
 use Rattle.model.specs.Fields.{variables, clause_count, goal_count}
 use Rattle.model.specs.Image.{check_query}
 use Rattle.model.specs.Encoding.{Words}
 use Rattle.model.specs.Memory.{Memory, used, parent, depth, own_variables, has_goal, frame, goal_index, tried}
-use Rattle.model.specs.Goals.{goals_of, next_goal, child_goal}
+use Rattle.model.specs.Goals.{goals_of, next_goal, child_goal, FirstGoal}
 use Rattle.model.specs.Damage.{called_word, clause_of, rule_goal, without_goal, with_goal, goal_sound, base_sound, node_sound, sound}
 use Rattle.meaning.proofs.Meaning.{legal-query-decodes, legal-query-places}
 use Rattle.paths.proofs.Held.{three-held, four-held}
@@ -32,14 +30,14 @@ module _ (image query : List ℕ) (query_words : Words query) (legal : check_que
 
   -- a first goal whose index is below its clause's goals; without a goal nothing is asked
   abbrev Counted : FirstGoal → Type 0
-  Counted NoGoal = Unit {0}
-  Counted (Goal holder index) = index < goals_of image query m.nodes holder
+  Counted None = Unit {0}
+  Counted (Some (holder, index)) = index < goals_of image query m.nodes holder
 
   next-counted : (most holder index : ℕ) → Counted (next_goal most image query m.nodes holder index)
   unfolding next_goal
   next-counted zero holder index = go (ltb (index + 1) (goals_of image query m.nodes holder)) refl
     where
-      go : (more : Bool) → ltb (index + 1) (goals_of image query m.nodes holder) ≡ more → Counted (cond more (Goal holder (index + 1)) NoGoal)
+      go : (more : Bool) → ltb (index + 1) (goals_of image query m.nodes holder) ≡ more → Counted (cond more (Some (holder, index + 1)) None)
       go true q = ltb-true (index + 1) (goals_of image query m.nodes holder) q
       go false q = tt
   next-counted (suc most) holder index = go (ltb (index + 1) (goals_of image query m.nodes holder)) refl (eqb holder 0) (next-counted most)
@@ -47,9 +45,9 @@ module _ (image query : List ℕ) (query_words : Words query) (legal : check_que
       go : (more : Bool) → ltb (index + 1) (goals_of image query m.nodes holder) ≡ more → (root : Bool)
           → ((h i : ℕ) → Counted (next_goal most image query m.nodes h i))
           → Counted (elim more [
-            | true ↦ Goal holder (index + 1)
+            | true ↦ Some (holder, index + 1)
             | false ↦ elim root [
-              | true ↦ NoGoal
+              | true ↦ None
               | false ↦ next_goal most image query m.nodes (frame m.nodes (parent m.nodes holder)) (goal_index m.nodes (parent m.nodes holder))
             ]
           ])
@@ -62,8 +60,8 @@ module _ (image query : List ℕ) (query_words : Words query) (legal : check_que
   rule-counted slot = go (eqb slot 0) (eqb (goal_count (clause_of image query m.nodes slot)) 0) refl
     where
       go : (root unit : Bool) → eqb (goal_count (clause_of image query m.nodes slot)) 0 ≡ unit
-          → Counted (cond root (Goal 0 0)
-          (cond unit (next_goal (depth m.nodes (frame m.nodes (parent m.nodes slot))) image query m.nodes (frame m.nodes (parent m.nodes slot)) (goal_index m.nodes (parent m.nodes slot))) (Goal slot 0)))
+          → Counted (cond root (Some (0, 0))
+          (cond unit (next_goal (depth m.nodes (frame m.nodes (parent m.nodes slot))) image query m.nodes (frame m.nodes (parent m.nodes slot)) (goal_index m.nodes (parent m.nodes slot))) (Some (slot, 0))))
       go true unit q = root-goals
       go false false q = let some = eqb-false (goal_count (clause_of image query m.nodes slot)) 0 q in above (goals_of image query m.nodes slot) some
         where
@@ -88,11 +86,11 @@ module _ (image query : List ℕ) (query_words : Words query) (legal : check_que
 
     goal-indexed : (first : FirstGoal) → goal_sound image query m.nodes slot first ≡ true → Counted first → has_goal m.nodes slot ≡ 1 → Indexed image query m.nodes slot
     unfolding goal_sound without_goal with_goal
-    goal-indexed NoGoal e counted has =
+    goal-indexed None e counted has =
         let nodes = m.nodes in
         let rule = four-held (eqb (has_goal nodes slot) 0) (eqb (frame nodes slot) 0) (eqb (goal_index nodes slot) 0) (eqb (tried nodes slot) 0) e in
         absurd (omega (arith, has, eqb-true (has_goal nodes slot) 0 rule.0))
-    goal-indexed (Goal holder index) e counted has =
+    goal-indexed (Some (holder, index)) e counted has =
         let nodes = m.nodes in
         let rule = four-held (eqb (has_goal nodes slot) 1) (eqb (frame nodes slot) holder) (eqb (goal_index nodes slot) index)
         (leb (tried nodes slot) (clause_count (called_word image query nodes slot))) e in

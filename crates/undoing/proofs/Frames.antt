@@ -1,6 +1,6 @@
 -- The frame of a used slot is on the path to it: its first goal stands in its own clause or in that of a slot above, and without a goal the frame is 0, the root.
 -- Document 01, "The steps", "the next goal is found by climbing from frame to parent frame", and "Refused calls", condition 21. Assumes nothing.
-use Rattle.std.specs.Prelude.{◌≡◌, ◌⊎◌, Bool, cond, List, ltb, leb}
+use Rattle.std.specs.Prelude.{◌≡◌, ◌⊎◌, Bool, cond, List, ltb, leb, Some, None}
 use Rattle.std.proofs.Math.Path.{refl, subst}
 use Rattle.std.proofs.Common.{sym, inr, ⊎_elim, eqb-true}
 use Rattle.std.proofs.Math.Logic.{inl}
@@ -9,11 +9,9 @@ use Prim.Native.Nat.{ℕ, zero, suc, ◌+◌, ◌<◌}
 use native.Mathlib.Omega.{arith}
 use Rattle.std.proofs.Math.Dec.{eqb}
 use Rattle.std.proofs.lemmas.Bool.{eqb-false}
-use Rattle.model.specs.declared.FirstGoal.{FirstGoal}
-use Rattle.model.specs.declared.FirstGoal.TheVariants.{NoGoal, Goal}
 use Rattle.model.specs.Fields.{variables, clause_count, goal_count}
 use Rattle.model.specs.Memory.{Memory, used, parent, depth, own_variables, has_goal, frame, goal_index, tried}
-use Rattle.model.specs.Goals.{goals_of, next_goal, child_goal}
+use Rattle.model.specs.Goals.{goals_of, next_goal, child_goal, FirstGoal}
 use Rattle.model.specs.Damage.{called_word, clause_of, rule_goal, without_goal, with_goal, goal_sound, base_sound, node_sound, on_path, sound}
 use Rattle.memory.proofs.FieldBounds.{parent-lt, depth-lt}
 use Rattle.paths.proofs.Held.{three-held, four-held}
@@ -63,18 +61,18 @@ module _ (image query : List ℕ) (m : Memory) (held : sound image query m ≡ t
 
   -- a first goal whose frame is on the path to a slot; without a goal nothing is asked
   abbrev Aimed : ℕ → FirstGoal → Type 0
-  Aimed slot NoGoal = Unit {0}
-  Aimed slot (Goal holder index) = OnPath m.nodes slot holder
+  Aimed slot None = Unit {0}
+  Aimed slot (Some (holder, index)) = OnPath m.nodes slot holder
 
   module _ (slot : ℕ) (fits : slot < 64) (taken : used m.nodes slot ≡ 1) where
     -- the slot's fields name that goal's frame
     frame-aimed : (first : FirstGoal) → goal_sound image query m.nodes slot first ≡ true → Aimed slot first → OnPath m.nodes slot (frame m.nodes slot)
     unfolding goal_sound without_goal with_goal
-    frame-aimed NoGoal e aimed =
+    frame-aimed None e aimed =
         let nodes = m.nodes in
         let rule = four-held (eqb (has_goal nodes slot) 0) (eqb (frame nodes slot) 0) (eqb (goal_index nodes slot) 0) (eqb (tried nodes slot) 0) e in
         subst (OnPath nodes slot) (sym (eqb-true (frame nodes slot) 0 rule.1)) (path-root nodes links 64 slot (depth-lt nodes slot) fits taken)
-    frame-aimed (Goal holder index) e aimed =
+    frame-aimed (Some (holder, index)) e aimed =
         let nodes = m.nodes in
         let rule = four-held (eqb (has_goal nodes slot) 1) (eqb (frame nodes slot) holder) (eqb (goal_index nodes slot) index)
         (leb (tried nodes slot) (clause_count (called_word image query nodes slot))) e in
@@ -86,7 +84,7 @@ module _ (image query : List ℕ) (m : Memory) (held : sound image query m ≡ t
       unfolding next_goal
       next-aimed zero holder index on = go (ltb (index + 1) (goals_of image query m.nodes holder))
         where
-          go : (more : Bool) → Aimed slot (cond more (Goal holder (index + 1)) NoGoal)
+          go : (more : Bool) → Aimed slot (cond more (Some (holder, index + 1)) None)
           go true = path-up m.nodes links slot holder fits taken other on
           go false = tt
       next-aimed (suc most) holder index on = go (ltb (index + 1) (goals_of image query m.nodes holder)) (eqb holder 0) refl (next-aimed most)
@@ -94,9 +92,9 @@ module _ (image query : List ℕ) (m : Memory) (held : sound image query m ≡ t
           go : (more root : Bool) → eqb holder 0 ≡ root
               → ((h i : ℕ) → OnPath m.nodes (parent m.nodes slot) h → Aimed slot (next_goal most image query m.nodes h i))
               → Aimed slot (elim more [
-                | true ↦ Goal holder (index + 1)
+                | true ↦ Some (holder, index + 1)
                 | false ↦ elim root [
-                  | true ↦ NoGoal
+                  | true ↦ None
                   | false ↦ next_goal most image query m.nodes (frame m.nodes (parent m.nodes holder)) (goal_index m.nodes (parent m.nodes holder))
                 ]
               ])
@@ -117,8 +115,8 @@ module _ (image query : List ℕ) (m : Memory) (held : sound image query m ≡ t
     rule-aimed framed = go (eqb slot 0) refl (eqb (goal_count (clause_of image query m.nodes slot)) 0)
       where
         go : (root : Bool) → eqb slot 0 ≡ root → (unit : Bool)
-            → Aimed slot (cond root (Goal 0 0)
-            (cond unit (next_goal (depth m.nodes (frame m.nodes (parent m.nodes slot))) image query m.nodes (frame m.nodes (parent m.nodes slot)) (goal_index m.nodes (parent m.nodes slot))) (Goal slot 0)))
+            → Aimed slot (cond root (Some (0, 0))
+            (cond unit (next_goal (depth m.nodes (frame m.nodes (parent m.nodes slot))) image query m.nodes (frame m.nodes (parent m.nodes slot)) (goal_index m.nodes (parent m.nodes slot))) (Some (slot, 0))))
         go true q unit = path-root m.nodes links 64 slot (depth-lt m.nodes slot) fits taken
         go false q false = path-self m.nodes (depth m.nodes slot) slot
         go false q true =

@@ -1,7 +1,5 @@
 -- `recall::goal_place` meets its contract. Assumes nothing.
-use mathlib.Core.Path.{sym, ap, ap₂, subst, ◌∙◌}
-use Prim.Native.Nat.{ℕ, ◌+◌, ◌*◌}
-use native.Mathlib.Omega.{arith}
+use Rattle.std.proofs.Common.{sym, ap, ap₂, subst, ◌∙◌, ℕ, ◌+◌, ◌*◌, arith}
 use Rattle.model.specs.Memory.{frame, clause_position, goal_index}
 use Rattle.memory.proofs.FieldBounds.{clause_position-lt, goal_index-lt}
 use Rattle.goals.proofs.PlaceLaws.{goal_of-lt}
@@ -11,20 +9,19 @@ use Rattle.recall.proofs.KeyLaws.{goal-told}
 use Rattle.recall.proofs.goal_place.Goals as goal
 
 pub overflow_mul-key : goal.overflow_mul-key
-overflow_mul-key c = let a = c.args in omega (arith, c.clause_position.ensures, clause_position-lt a.nodes.now c.frame-slot.result)
+overflow_mul-key c = omega (arith, clause_position-lt)
 
 pub overflow_add-key : goal.overflow_add-key
-overflow_add-key c = let a = c.args in omega (arith, c.clause_position.ensures, clause_position-lt a.nodes.now c.frame-slot.result, c.goal_index.ensures, goal_index-lt a.nodes.now a.node)
+overflow_add-key c = omega (arith, clause_position-lt, goal_index-lt)
 
-pub returns-then-known-ne0 : goal.returns-then-known-ne0
-returns-then-known-ne0 c = let a = c.args in
-    let slot = frame a.nodes.now a.node in
+pub returns-in-Some : goal.returns-in-Some
+returns-in-Some c = let a = c.args in
     let key = ap₂ (λ (p i : ℕ). 16 * p + i) (c.clause_position.ensures ∙ ap (clause_position a.nodes.now) c.frame-slot.ensures) c.goal_index.ensures in
-    let found = c.recall-known.ensures in
-    (found ∙ recall-true (GoalTold a.image.now a.query.now) a.places.now a.node (16 * c.clause_position.result + c.goal_index.result) c.requires (λ e. c.if-known-ne0.true (found ∙ e)) (clause_position a.nodes.now slot) (goal_index a.nodes.now a.node) (goal_index-lt a.nodes.now a.node) key, c.requires)
+    let told = recall-true (GoalTold a.image.now a.query.now) a.places.now a.node (16 * c.clause_position.result + c.goal_index.result) c.in-Some.place c.requires (sym c.recall.ensures ∙ c.in-Some.is) in
+    (told (clause_position a.nodes.now (frame a.nodes.now a.node)) (goal_index a.nodes.now a.node) (goal_index-lt a.nodes.now a.node) key, c.requires)
 
 pub overflow_cast-place : goal.overflow_cast-place
-overflow_cast-place c = let a = c.args in record { fits = omega (arith, c.goal_of-place.ensures, goal_of-lt a.image.now a.query.now a.nodes.now a.node) }
+overflow_cast-place c = omega (arith, goal_of-lt)
 
 pub returns : goal.returns
 returns c = let a = c.args in

@@ -1,5 +1,5 @@
 -- `recall::keep_clause` meets its contract. Assumes nothing.
-use mathlib.Core.Path.{sym, subst}
+use Rattle.std.proofs.Common.{sym, subst}
 use Rattle.recall.specs.Places.{clause_key, ClauseTold, ClausesKept}
 use Rattle.recall.proofs.RecallLaws.{keep-true}
 use Rattle.recall.proofs.KeyLaws.{clause-told}
