@@ -1,5 +1,5 @@
 // Image, query and the shared memory of the schedules, each slice with a spare word at its end, for the calls that lend one more than they should.
-ghost use Rattle.std.specs.Prelude.{◌≤◌, length};
+ghost use Rattle.std.specs.Prelude.{◌≤◌};
 
 use crate::answers::digest;
 use crate::calling::answer_agrees;

@@ -4,7 +4,7 @@
 // Kind 0 is an image, 1 an image and a query, 2 to 5 the image's bytes less 0 to 3 of them, 6 a long image made here from one word.
 #![tactic(auto)]
 
-ghost use Rattle.std.specs.Prelude.{◌≡◌, ◌+◌, ◌*◌, ◌≤◌, ◌<◌, length, IfSome};
+ghost use Rattle.std.specs.Prelude.{◌≡◌, ◌<◌, length, IfSome};
 
 use model::{Refused, Verdict};
 use std::{fs, io};

@@ -2,7 +2,7 @@
 // The first argument names a file of words, most significant byte first: query length, query, image. The second says how many searches. Without arguments: the file `words`, once; it is workload w4 of `bench/workloads.py`, whose 10,000 answers are passed over.
 #![tactic(auto)]
 
-ghost use Rattle.std.specs.Prelude.{◌≡◌, ◌+◌, ◌≤◌, ◌<◌, length};
+ghost use Rattle.std.specs.Prelude.{◌+◌, ◌≤◌, ◌<◌};
 ghost use Rattle.turns.specs.Hand.{AtHand, Begun};
 
 use engine::RunEnd;
@@ -121,6 +121,7 @@ impl Memory {
     {
         let mut total: u32 = 0;
         let mut left: u32 = 65535;
+        // The runs take unequal numbers of steps.
         while 0 < left {
             let end = self.run(hand, image, query, left);
             // A run never takes more steps than it may; the least of both saves a proof.

@@ -2,7 +2,7 @@
 // It prints a line for each case that does not agree, and then how many agree.
 #![tactic(auto)]
 
-ghost use Rattle.std.specs.Prelude.{◌≡◌, ◌≤◌, length, IfOk};
+ghost use Rattle.std.specs.Prelude.{◌≤◌, length};
 
 use files::{next_word, read_words};
 use model::{Refused, Written};
@@ -30,19 +30,13 @@ impl Call {
     }
 }
 
-// What the file's cases are read into.
+// What a case is read into, and the room of its call: room for the spread form of an image of 131,071 words whose clauses are facts of arity 15.
+// It is made where it stays, since a stack has little more than twice its size.
 #[derive(Drop)]
 struct Rooms {
     input: [u32; 280000],
     room: [u32; 280000],
     words: [u32; 280000],
-}
-
-// Room for the spread form of an image of 131,071 words whose clauses are facts of arity 15.
-fn space() -> [u32; 280000]
-    ensures { 280000 ≡ length result }
-{
-    [0; 280000]
 }
 
 // From `from` on every word is the one `step` before it.
@@ -101,14 +95,6 @@ fn answers(answer: Written, number: u32, value: usize) -> bool {
 }
 
 impl Rooms {
-    fn new() -> Rooms {
-        Rooms {
-            input: space(),
-            room: space(),
-            words: space(),
-        }
-    }
-
     // A stored case: which call, the room's size, number and value of the answer, the input, the words written.
     fn case_agrees(&mut self, file: &mut File) -> bool {
         let call = Call::from(next_word(file));
@@ -131,7 +117,11 @@ impl Rooms {
 
 // Answers how many agree.
 fn run(rt: &impl Print, file: &mut File, cases: u32) -> io::Result<u32> {
-    let mut rooms = Rooms::new();
+    let mut rooms = Rooms {
+        input: [0; 280000],
+        room: [0; 280000],
+        words: [0; 280000],
+    };
     let mut good: u32 = 0;
     for i in 0..cases {
         if rooms.case_agrees(file) {
