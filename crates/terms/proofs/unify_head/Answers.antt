@@ -1,7 +1,6 @@
 -- `terms::unify_head` meets its contract. Assumes nothing.
-use Rattle.std.proofs.Common.{◌≡◌, ℕ, ◌+◌, ◌≤◌, ◌∙◌, sym, ap₂, arith, add-zero}
+use Rattle.std.proofs.Common.{◌≡◌, ◌+◌, ◌≤◌, ◌∙◌, arith}
 use Rattle.std.proofs.lemmas.Result.{err_from_is_err_and}
-use Rattle.model.specs.Terms.{unify_head}
 use Rattle.terms.proofs.HeadLaws.{unify_head-end, unify_head-turn, unify_words-count}
 use Rattle.terms.proofs.unify_head.Goals as goal
 
