@@ -1,8 +1,9 @@
 // A stored call is made on what is lent for it, and its answer is held against what is stored.
 // The slices are passed one by one, as the calls take them: the borrow checker does not cover a struct of `&mut` slices that is handed on.
-use crate::answers::{load_agrees, move_agrees, read_agrees, run_agrees, step_agrees};
+use crate::answers::agrees;
 use crate::room::{fill, holds, written};
 use crate::stored::{Call, Kind};
+use numbers::outcome_number;
 use std::fs::File;
 
 // The room is longer than what is lent of it, to show that the words past that stay.
@@ -28,7 +29,7 @@ fn read_call_agrees<'a>(
     let answer = calls::read(
         image, query, nodes, cells, trail, arrays, workers, worker, lent,
     );
-    holds(file, &room, written(call)) && read_agrees(answer, call)
+    holds(file, &room, written(call)) && agrees(answer, call, |count| count == call.first as usize)
 }
 
 pub fn answer_agrees<'a>(
@@ -47,23 +48,31 @@ pub fn answer_agrees<'a>(
     match call.kind {
         Kind::Load => {
             let answer = calls::load(image, query, nodes, cells, trail, arrays, workers);
-            load_agrees(answer, call)
+            agrees(answer, call, |()| call.says(0, 0, 0))
         }
         Kind::Step => {
             let answer = calls::step(image, query, nodes, cells, trail, arrays, workers, worker);
-            step_agrees(answer, call)
+            agrees(
+                answer,
+                call,
+                |(outcome, slot)| call.says(outcome_number(outcome), slot, 0),
+            )
         }
         Kind::Run | Kind::Other(_) => {
             let answer = calls::run(
                 image, query, nodes, cells, trail, arrays, workers, worker, given,
             );
-            run_agrees(answer, call)
+            agrees(
+                answer,
+                call,
+                |(outcome, slot, count)| call.says(outcome_number(outcome), slot, count),
+            )
         }
         Kind::Move => {
             let answer = calls::move_worker(
                 image, query, nodes, cells, trail, arrays, workers, worker, given,
             );
-            move_agrees(answer, call)
+            agrees(answer, call, |entries| call.says(entries, 0, 0))
         }
         Kind::Read => read_call_agrees(
             file, call, image, query, nodes, cells, trail, arrays, workers,

@@ -78,6 +78,11 @@ pub struct Call {
 }
 
 impl Call {
+    // What was done is stored as three numbers.
+    pub fn says(self, first: u32, second: u32, third: u32) -> bool {
+        first == self.first && second == self.second && third == self.third
+    }
+
     pub fn read(file: &mut File) -> Call {
         let kind = Kind::from(next_word(file));
         let worker = next_word(file);
