@@ -1,1 +1,2 @@
 pub mod Wiped
+pub mod Views

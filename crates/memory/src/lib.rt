@@ -9,7 +9,10 @@ ghost use Rattle.model.specs.Steps.{child_from, another_from, free_from, undone,
 ghost use Rattle.model.specs.Moves.{installed, climbed, leg};
 ghost use Rattle.memory.specs.Wiped.{Wiped};
 
+mod view;
+
 use model::Kind;
+pub use view::View;
 
 // A field of word `part` of a slot's node.
 pub fn node_field(nodes: &[u32], slot: u32, part: usize, kind: Kind, i: usize) -> u32
