@@ -10,14 +10,19 @@ use model::FirstGoal;
 
 const ROOT: u32 = 0;
 
-// The words that hold a slot's clause: the query's for the root.
-pub fn clause_words<'a>(image: &'a [u32], query: &'a [u32], nodes: &[u32], slot: u32) -> &'a [u32]
-    ensures { result.now ≡ clause_words image.now query.now nodes.now slot }
-{
-    if memory::clause_position(nodes, slot) == 0 {
-        return query;
-    }
-    image
+// What a search goes by: the rule image and the query.
+#[derive(Clone, Copy)]
+pub struct Search<'a> {
+    pub image: &'a [u32],
+    pub query: &'a [u32],
+}
+
+// A live node's first goal: the node, the predicate that it calls, and the place where it stands.
+#[derive(Clone, Copy)]
+pub struct Call {
+    pub node: u32,
+    pub predicate: u32,
+    pub place: usize,
 }
 
 // The first GOAL word from a place on, past at most so many head arguments.
@@ -86,83 +91,86 @@ fn clause_from(image: &[u32], start: usize, clauses: u32) -> usize
     at
 }
 
-// How many goals a slot's clause has.
-pub fn goals_of<'a>(image: &'a [u32], query: &'a [u32], nodes: &[u32], slot: u32) -> u32
-    ensures { result ≡ goals_of image.now query.now nodes.now slot }
-{
-    let at = memory::clause_position(nodes, slot) as usize;
-    words::goal_count(words::word_at(clause_words(image, query, nodes, slot), at))
-}
-
-// The goal behind the one at an index of a slot's clause. It climbs from frame to parent frame: as often as the slot is deep, and no further than the root.
-fn next_goal<'a>(
-    image: &'a [u32],
-    query: &'a [u32],
-    nodes: &[u32],
-    depth: u32,
-    slot: u32,
-    index: u32,
-) -> FirstGoal
-    requires { (depth < 64) × (index < 16) }
-    ensures { result ≡ next_goal depth image.now query.now nodes.now slot index }
-{
-    let mut holder = slot;
-    let mut before = index;
-    for _ in 0..=depth {
-        if before + 1 < goals_of(image, query, nodes, holder) {
-            return Some((holder, before + 1));
+impl<'a> Search<'a> {
+    // The words that hold a slot's clause: the query's for the root.
+    pub fn clause_words(self, nodes: &[u32], slot: u32) -> &'a [u32]
+        ensures { result.now ≡ clause_words self.entry.image.now self.entry.query.now nodes.now slot }
+    {
+        if memory::clause_position(nodes, slot) == 0 {
+            return self.query;
         }
-        if holder == ROOT {
-            return None;
+        self.image
+    }
+
+    // How many goals a slot's clause has.
+    pub fn goals_of(self, nodes: &[u32], slot: u32) -> u32
+        ensures { result ≡ goals_of self.entry.image.now self.entry.query.now nodes.now slot }
+    {
+        let at = memory::clause_position(nodes, slot) as usize;
+        words::goal_count(words::word_at(self.clause_words(nodes, slot), at))
+    }
+
+    // The goal behind the one at an index of a slot's clause. It climbs from frame to parent frame: as often as the slot is deep, and no further than the root.
+    fn next_goal(self, nodes: &[u32], depth: u32, slot: u32, index: u32) -> FirstGoal
+        requires { (depth < 64) × (index < 16) }
+        ensures { result ≡ next_goal depth self.entry.image.now self.entry.query.now nodes.now slot index }
+    {
+        let mut holder = slot;
+        let mut before = index;
+        for _ in 0..=depth {
+            if before + 1 < self.goals_of(nodes, holder) {
+                return Some((holder, before + 1));
+            }
+            if holder == ROOT {
+                return None;
+            }
+            let above = memory::parent(nodes, holder);
+            holder = memory::frame(nodes, above);
+            before = memory::goal_index(nodes, above);
         }
-        let above = memory::parent(nodes, holder);
-        holder = memory::frame(nodes, above);
-        before = memory::goal_index(nodes, above);
+        None
     }
-    None
-}
 
-// The first goal of a child with so many goals of its own, of a node whose first goal stands at an index of a slot's clause.
-#[tactic(auto, unfolding(model::specs::Goals::child_goal))]
-pub fn child_goal<'a>(
-    image: &'a [u32],
-    query: &'a [u32],
-    nodes: &[u32],
-    child: u32,
-    goals: u32,
-    slot: u32,
-    index: u32,
-) -> FirstGoal
-    requires { index < 16 }
-    ensures { result ≡ child_goal image.now query.now nodes.now child goals slot index }
-{
-    if goals != 0 {
-        return Some((child, 0));
+    // The first goal of a child with so many goals of its own, of a node whose first goal stands at an index of a slot's clause.
+    #[tactic(auto, unfolding(model::specs::Goals::child_goal))]
+    pub fn child_goal(
+        self,
+        nodes: &[u32],
+        child: u32,
+        goals: u32,
+        slot: u32,
+        index: u32,
+    ) -> FirstGoal
+        requires { index < 16 }
+        ensures { result ≡ child_goal self.entry.image.now self.entry.query.now nodes.now child goals slot index }
+    {
+        if goals != 0 {
+            return Some((child, 0));
+        }
+        self.next_goal(nodes, memory::depth(nodes, slot), slot, index)
     }
-    next_goal(image, query, nodes, memory::depth(nodes, slot), slot, index)
-}
 
-// The place of a node's first goal.
-#[tactic(auto, unfolding(model::specs::Steps::goal_of))]
-pub fn goal_of<'a>(image: &'a [u32], query: &'a [u32], nodes: &[u32], node: u32) -> usize
-    ensures { result ≡ goal_of image.now query.now nodes.now node }
-{
-    let slot = memory::frame(nodes, node);
-    let words = clause_words(image, query, nodes, slot);
-    goal_place(
-        image,
-        words,
-        memory::clause_position(nodes, slot),
-        memory::goal_index(nodes, node),
-    )
-}
+    // The place of a node's first goal.
+    #[tactic(auto, unfolding(model::specs::Steps::goal_of))]
+    pub fn goal_of(self, nodes: &[u32], node: u32) -> usize
+        ensures { result ≡ goal_of self.entry.image.now self.entry.query.now nodes.now node }
+    {
+        let slot = memory::frame(nodes, node);
+        goal_place(
+            self.image,
+            self.clause_words(nodes, slot),
+            memory::clause_position(nodes, slot),
+            memory::goal_index(nodes, node),
+        )
+    }
 
-// The predicate that a node's first goal calls.
-#[tactic(auto, unfolding(model::specs::Steps::predicate_of))]
-pub fn predicate_of<'a>(image: &'a [u32], query: &'a [u32], nodes: &[u32], node: u32) -> u32
-    ensures { result ≡ predicate_of image.now query.now nodes.now node }
-{
-    let at = goal_of(image, query, nodes, node);
-    let words = clause_words(image, query, nodes, memory::frame(nodes, node));
-    words::goal_predicate(words::word_at(words, at))
+    // The predicate that a node's first goal calls.
+    #[tactic(auto, unfolding(model::specs::Steps::predicate_of))]
+    pub fn predicate_of(self, nodes: &[u32], node: u32) -> u32
+        ensures { result ≡ predicate_of self.entry.image.now self.entry.query.now nodes.now node }
+    {
+        let at = self.goal_of(nodes, node);
+        let words = self.clause_words(nodes, memory::frame(nodes, node));
+        words::goal_predicate(words::word_at(words, at))
+    }
 }
