@@ -38,8 +38,8 @@ fn argument(words: &[u32], declared: u32, at: usize, seen: u32) -> Walk
     }
     let word = words[at];
     match words::op(word) {
-        1 => variable_at(word, declared, at, seen),
-        2 => Ok((at + 1, seen)),
+        words::VAR_OP => variable_at(word, declared, at, seen),
+        words::CON_OP => Ok((at + 1, seen)),
         _ => Err(Met(Fault::ArgumentExpected, at)),
     }
 }
@@ -63,7 +63,7 @@ fn goal_word(image: &[u32], words: &[u32], at: usize, seen: u32) -> Walk
         return Err(Met(Fault::EndsEarly, words.len()));
     }
     let word = words[at];
-    if words::op(word) != 9 {
+    if words::op(word) != words::GOAL_OP {
         return Err(Met(Fault::GoalExpected, at));
     }
     if words::goal_zero(word) != 0 {
@@ -104,7 +104,7 @@ fn clause_word(words: &[u32], fewest: u32, at: usize) -> Walk
         return Err(Met(Fault::EndsEarly, words.len()));
     }
     let word = words[at];
-    if words::op(word) != 8 {
+    if words::op(word) != words::CLAUSE_OP {
         return Err(Met(Fault::ClauseExpected, at));
     }
     let variables = words::variables(word);

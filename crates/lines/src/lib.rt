@@ -51,7 +51,7 @@ fn value_text(line: &mut [u8], at: usize, word: u32) -> usize
     ensures { (line.new ≡ written at (value_text word) line.old) × (result ≡ at + length (value_text word)) }
 {
     put(line, at, b' ');
-    if words::op(word) == 2 {
+    if words::op(word) == words::CON_OP {
         put(line, at + 1, b'c');
         return decimal(line, at + 2, words::constant(word) as usize);
     }

@@ -103,13 +103,13 @@ pub fn load(
 fn con_word(constant: u32) -> u32
     ensures { result ≡ word_of Con (2 ∷ constant ∷ []) }
 {
-    words::placed(2, Kind::Con, 0) + words::placed(constant, Kind::Con, 1)
+    words::placed(words::CON_OP, Kind::Con, 0) + words::placed(constant, Kind::Con, 1)
 }
 
 fn var_word(number: u32) -> u32
     ensures { result ≡ word_of Var (1 ∷ 0 ∷ number ∷ []) }
 {
-    words::placed(1, Kind::Var, 0) + words::placed(number, Kind::Var, 2)
+    words::placed(words::VAR_OP, Kind::Var, 0) + words::placed(number, Kind::Var, 2)
 }
 
 // The numbers that an answer has named so far: as many as `count` says, at the front.

@@ -10,7 +10,10 @@ use model::{Kind, Refusal, Refused, Scan};
 fn known_op(op: u32) -> bool
     ensures { result ≡ known_op op }
 {
-    matches!(op, 1 | 2 | 8 | 9)
+    matches!(
+        op,
+        words::VAR_OP | words::CON_OP | words::CLAUSE_OP | words::GOAL_OP
+    )
 }
 
 #[tactic(auto, unfolding(model::specs::Spread::kind_of_op))]
@@ -18,9 +21,9 @@ fn kind_of_op(op: u32) -> Kind
     ensures { result ≡ kind_of_op op }
 {
     match op {
-        1 => Kind::Var,
-        2 => Kind::Con,
-        8 => Kind::Clause,
+        words::VAR_OP => Kind::Var,
+        words::CON_OP => Kind::Con,
+        words::CLAUSE_OP => Kind::Clause,
         _ => Kind::Goal,
     }
 }

@@ -35,6 +35,7 @@ fn pack_words(list: &[u32], words: &mut [u32])
     let count = words::word_at(list, 1);
     let mut at: usize = 0;
     let mut number: usize = 0;
+    // Groups have unequal lengths, so their places are not counted.
     while at < list.len() {
         let first = list[at];
         let kind = kind_at(count, number, first);

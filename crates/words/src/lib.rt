@@ -9,6 +9,15 @@ ghost use Rattle.words.specs.Table.{row_of};
 
 use model::Kind;
 
+// The ops by which the words behind the predicates' are told apart.
+pub const VAR_OP: u32 = 1;
+
+pub const CON_OP: u32 = 2;
+
+pub const CLAUSE_OP: u32 = 8;
+
+pub const GOAL_OP: u32 = 9;
+
 // The widths of every kind of word, most significant first, a row a kind.
 const WIDTHS: [[u32; 6]; 11] = [
     [4, 10, 1, 17, 0, 0], // Header
