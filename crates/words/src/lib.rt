@@ -54,19 +54,7 @@ const SIZES: [usize; 11] = [3, 4, 4, 2, 2, 2, 5, 2, 4, 0, 2];
 fn row(kind: Kind) -> usize
     ensures { result ≡ row_of kind }
 {
-    match kind {
-        Kind::Header => 0,
-        Kind::Predicate => 1,
-        Kind::Clause => 2,
-        Kind::Var => 3,
-        Kind::Con => 4,
-        Kind::Goal => 5,
-        Kind::Node0 => 6,
-        Kind::Node1 => 7,
-        Kind::Node2 => 8,
-        Kind::Node3 => 9,
-        Kind::Value => 10,
-    }
+    kind as usize
 }
 
 // The width of field `i`, 0 where there is no such field.
