@@ -56,41 +56,28 @@ clause_from-turn image i n at h = rw (left-after i n h) refl
 pub clause_next-le : (image : List ℕ) (at : ℕ) → at + clause_length (get_or image at 0) ≤ at + 65535
 clause_next-le image at = omega (arith, clause_length-lt (get_or image at 0))
 
--- the climb by how many turns are left: without any there is no goal
-abbrev pub climbs : ℕ → List ℕ → List ℕ → List ℕ → ℕ → ℕ → FirstGoal
-climbs zero image query nodes slot index = None
-climbs (suc depth) image query nodes slot index = next_goal depth image query nodes slot index
-
--- a turn of it: a goal remains here, this is the root, or it goes on
+-- a turn of the climb: a goal remains here, it may climb no further, this is the root, or it goes on at the parent's frame
 module _ (image query nodes : List ℕ) (slot index : ℕ) where
-  next_goal-here : (depth : ℕ) → index + 1 < goals_of image query nodes slot → Some (slot, index + 1) ≡ next_goal depth image query nodes slot index
+  pub next_goal-here : (depth : ℕ) → index + 1 < goals_of image query nodes slot → Some (slot, index + 1) ≡ next_goal depth image query nodes slot index
   unfolding next_goal
   next_goal-here zero h = simp (lt-ltb (index + 1) (goals_of image query nodes slot) h)
   next_goal-here (suc depth) h = rw (lt-ltb (index + 1) (goals_of image query nodes slot) h, next_goal) refl
 
-  next_goal-root : (depth : ℕ) → goals_of image query nodes slot ≤ index + 1 → slot ≡ 0 → None ≡ next_goal depth image query nodes slot index
+  pub next_goal-top : (depth : ℕ) → depth ≡ 0 → goals_of image query nodes slot ≤ index + 1 → None ≡ next_goal depth image query nodes slot index
+  unfolding next_goal
+  next_goal-top zero z h = simp (le-ltb (index + 1) (goals_of image query nodes slot) h)
+  next_goal-top (suc depth) z h = absurd (omega arith)
+
+  pub next_goal-root : (depth : ℕ) → goals_of image query nodes slot ≤ index + 1 → slot ≡ 0 → None ≡ next_goal depth image query nodes slot index
   unfolding next_goal
   next_goal-root zero h r = simp (le-ltb (index + 1) (goals_of image query nodes slot) h)
   next_goal-root (suc depth) h r = rw (le-ltb (index + 1) (goals_of image query nodes slot) h, eq-eqb slot 0 r, next_goal) refl
 
-  next_goal-up : (depth : ℕ) → goals_of image query nodes slot ≤ index + 1 → (slot ≡ 0 → ⊥)
-      → climbs depth image query nodes (frame nodes (parent nodes slot)) (goal_index nodes (parent nodes slot)) ≡ next_goal depth image query nodes slot index
+  pub next_goal-up : (depth : ℕ) → 0 < depth → goals_of image query nodes slot ≤ index + 1 → (slot ≡ 0 → ⊥)
+      → next_goal (depth - 1) image query nodes (frame nodes (parent nodes slot)) (goal_index nodes (parent nodes slot)) ≡ next_goal depth image query nodes slot index
   unfolding next_goal
-  next_goal-up zero h n = simp (le-ltb (index + 1) (goals_of image query nodes slot) h)
-  next_goal-up (suc depth) h n = rw (le-ltb (index + 1) (goals_of image query nodes slot) h, ne_eqb slot 0 n, next_goal) refl
-
-  pub climbs-here : (i n : ℕ) → i < n → index + 1 < goals_of image query nodes slot → Some (slot, index + 1) ≡ climbs (n - i) image query nodes slot index
-  climbs-here i n h g = rw (left-after i n h) (next_goal-here (n - (i + 1)) g)
-
-  pub climbs-root : (i n : ℕ) → i < n → goals_of image query nodes slot ≤ index + 1 → slot ≡ 0 → None ≡ climbs (n - i) image query nodes slot index
-  climbs-root i n h g r = rw (left-after i n h) (next_goal-root (n - (i + 1)) g r)
-
-  pub climbs-up : (i n : ℕ) → i < n → goals_of image query nodes slot ≤ index + 1 → (slot ≡ 0 → ⊥)
-      → climbs (n - (i + 1)) image query nodes (frame nodes (parent nodes slot)) (goal_index nodes (parent nodes slot)) ≡ climbs (n - i) image query nodes slot index
-  climbs-up i n h g r = rw (left-after i n h) (next_goal-up (n - (i + 1)) g r)
-
-  pub climbs-end : (i n : ℕ) → n ≤ i → None ≡ climbs (n - i) image query nodes slot index
-  climbs-end i n h = rw (none-left i n h) refl
+  next_goal-up zero z h n = absurd (omega arith)
+  next_goal-up (suc depth) z h n = let e : suc depth - 1 ≡ depth = omega arith in rw (e, le-ltb (index + 1) (goals_of image query nodes slot) h, ne_eqb slot 0 n, next_goal) refl
 
 clause_from-le : (image : List ℕ) (clauses at : ℕ) → clause_from image at clauses ≤ at + 65535 * clauses
 unfolding clause_from clause_next

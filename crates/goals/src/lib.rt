@@ -110,25 +110,23 @@ impl<'a> Search<'a> {
         words::goal_count(words::word_at(self.clause_words(nodes, slot), at))
     }
 
-    // The goal behind the one at an index of a slot's clause. It climbs from frame to parent frame: as often as the slot is deep, and no further than the root.
+    // The goal behind the one at an index of a slot's clause. It climbs from frame to parent frame until a goal remains, depth falling at each call.
     fn next_goal(self, nodes: &[u32], depth: u32, slot: u32, index: u32) -> FirstGoal
-        requires { (depth < 64) × (index < 16) }
+        requires { index < 16 }
         ensures { result ≡ next_goal depth self.entry.image.now self.entry.query.now nodes.now slot index }
     {
-        let mut holder = slot;
-        let mut before = index;
-        for _ in 0..=depth {
-            if before + 1 < self.goals_of(nodes, holder) {
-                return Some((holder, before + 1));
-            }
-            if holder == ROOT {
-                return None;
-            }
-            let above = memory::parent(nodes, holder);
-            holder = memory::frame(nodes, above);
-            before = memory::goal_index(nodes, above);
+        if index + 1 < self.goals_of(nodes, slot) {
+            return Some((slot, index + 1));
         }
-        None
+        if depth == 0 {
+            return None;
+        }
+        if slot == ROOT {
+            return None;
+        }
+        let above = memory::parent(nodes, slot);
+        let frame = memory::frame(nodes, above);
+        self.next_goal(nodes, depth - 1, frame, memory::goal_index(nodes, above))
     }
 
     // The first goal of a child with so many goals of its own, of a node whose first goal stands at an index of a slot's clause.
