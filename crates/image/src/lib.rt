@@ -63,8 +63,9 @@ fn goal_word(image: &[u32], words: &[u32], at: usize, seen: u32) -> Walk
         return Err(Met(Fault::EndsEarly, words.len()));
     }
     let word = words[at];
-    if words::op(word) != words::GOAL_OP {
-        return Err(Met(Fault::GoalExpected, at));
+    match words::op(word) {
+        words::GOAL_OP => {}
+        _ => return Err(Met(Fault::GoalExpected, at)),
     }
     if words::goal_zero(word) != 0 {
         return Err(Met(Fault::ZeroField, at));
@@ -104,18 +105,13 @@ fn clause_word(words: &[u32], fewest: u32, at: usize) -> Walk
         return Err(Met(Fault::EndsEarly, words.len()));
     }
     let word = words[at];
-    if words::op(word) != words::CLAUSE_OP {
-        return Err(Met(Fault::ClauseExpected, at));
-    }
-    let variables = words::variables(word);
     let goals = words::goal_count(word);
-    if 32 < variables {
-        return Err(Met(Fault::VariableCount, at));
+    match (words::op(word), words::variables(word), goals) {
+        (words::CLAUSE_OP, 0..=32, 0..=16) if fewest <= goals => Ok((at + 1, 0)),
+        (words::CLAUSE_OP, 0..=32, _) => Err(Met(Fault::GoalCount, at)),
+        (words::CLAUSE_OP, _, _) => Err(Met(Fault::VariableCount, at)),
+        _ => Err(Met(Fault::ClauseExpected, at)),
     }
-    if 16 < goals || goals < fewest {
-        return Err(Met(Fault::GoalCount, at));
-    }
-    Ok((at + 1, 0))
 }
 
 // The end of a clause that starts at `start` with the CLAUSE word `word`.
