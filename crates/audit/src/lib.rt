@@ -6,6 +6,8 @@ ghost use Rattle.model.specs.Fields.{variables};
 ghost use Rattle.model.specs.Memory.{memory, array_of};
 ghost use Rattle.model.specs.Damage.{each, zero_fields, free_zero, among_clauses, root_sound, called_word, linked, clause_of, rule_goal, without_goal, with_goal, goal_sound, base_sound, node_sound, slot_linked, slot_sound, path_array, same_words, worker_sound, sound};
 
+use bindings::Tree;
+use goals::Search;
 use memory::PutIn;
 use model::{FirstGoal, Kind};
 
@@ -23,13 +25,13 @@ fn zero_fields(nodes: &[u32], slot: u32) -> bool
 
 // A free slot is zero throughout.
 #[tactic(auto, unfolding(model::specs::Damage::free_zero))]
-fn free_zero(nodes: &[u32], cells: &[u32], trail: &[u32], slot: u32) -> bool
-    ensures { result ≡ free_zero nodes.now cells.now trail.now slot }
+fn free_zero(tree: Tree<'_>, slot: u32) -> bool
+    ensures { result ≡ free_zero tree.entry.nodes.now tree.entry.cells.now tree.entry.trail.now slot }
 {
     let first = 32 * slot as usize;
-    bindings::zeros(nodes, 4 * slot as usize, 4)
-        && bindings::zeros(cells, first, 32)
-        && bindings::zeros(trail, first, 32)
+    bindings::zeros(tree.nodes, 4 * slot as usize, 4)
+        && bindings::zeros(tree.cells, first, 32)
+        && bindings::zeros(tree.trail, first, 32)
 }
 
 // A position is that of one of so many clauses, from one on.
@@ -60,25 +62,25 @@ fn root_sound(nodes: &[u32]) -> bool
 }
 
 // The predicate word of a node's first goal.
-fn called_word<'a>(image: &'a [u32], query: &'a [u32], nodes: &[u32], node: u32) -> u32
-    ensures { result ≡ called_word image.now query.now nodes.now node }
+fn called_word(search: Search<'_>, nodes: &[u32], node: u32) -> u32
+    ensures { result ≡ called_word search.entry.image.now search.entry.query.now nodes.now node }
 {
-    let predicate = goals::predicate_of(image, query, nodes, node) as usize;
-    words::word_at(image, 1 + predicate)
+    let predicate = search.predicate_of(nodes, node) as usize;
+    words::word_at(search.image, 1 + predicate)
 }
 
 // A slot's parent is used, one less deep, and has tried the slot's clause on its first goal.
 #[tactic(auto, unfolding(model::specs::Damage::linked))]
-fn linked<'a>(image: &'a [u32], query: &'a [u32], nodes: &[u32], slot: u32) -> bool
-    ensures { result ≡ linked image.now query.now nodes.now slot }
+fn linked(search: Search<'_>, nodes: &[u32], slot: u32) -> bool
+    ensures { result ≡ linked search.entry.image.now search.entry.query.now nodes.now slot }
 {
     let parent = memory::parent(nodes, slot);
-    let first = words::first_clause(called_word(image, query, nodes, parent)) as usize;
+    let first = words::first_clause(called_word(search, nodes, parent)) as usize;
     let position = memory::clause_position(nodes, slot);
     memory::used(nodes, parent) == 1
         && memory::depth(nodes, slot) == memory::depth(nodes, parent) + 1
         && memory::has_goal(nodes, parent) == 1
-        && among_clauses(image, first, position, memory::tried(nodes, parent))
+        && among_clauses(search.image, first, position, memory::tried(nodes, parent))
 }
 
 // A slot without a goal: its goal's fields are 0.
@@ -94,54 +96,39 @@ fn without_goal(nodes: &[u32], slot: u32) -> bool
 
 // A slot's first goal stands at an index of a slot's clause, and no more clauses are tried than there are.
 #[tactic(auto, unfolding(model::specs::Damage::with_goal))]
-fn with_goal<'a>(
-    image: &'a [u32],
-    query: &'a [u32],
-    nodes: &[u32],
-    slot: u32,
-    holder: u32,
-    index: u32,
-) -> bool
-    ensures { result ≡ with_goal image.now query.now nodes.now slot holder index }
+fn with_goal(search: Search<'_>, nodes: &[u32], slot: u32, holder: u32, index: u32) -> bool
+    ensures { result ≡ with_goal search.entry.image.now search.entry.query.now nodes.now slot holder index }
 {
     memory::has_goal(nodes, slot) == 1
         && memory::frame(nodes, slot) == holder
         && memory::goal_index(nodes, slot) == index
-        && memory::tried(nodes, slot) <= words::clause_count(called_word(image, query, nodes, slot))
+        && memory::tried(nodes, slot) <= words::clause_count(called_word(search, nodes, slot))
 }
 
 // A slot's goal fields hold a first goal, and the clauses tried go with it.
 #[tactic(auto, unfolding(model::specs::Damage::goal_sound))]
-fn goal_sound<'a>(
-    image: &'a [u32],
-    query: &'a [u32],
-    nodes: &[u32],
-    slot: u32,
-    goal: FirstGoal,
-) -> bool
-    ensures { result ≡ goal_sound image.now query.now nodes.now slot goal }
+fn goal_sound(search: Search<'_>, nodes: &[u32], slot: u32, goal: FirstGoal) -> bool
+    ensures { result ≡ goal_sound search.entry.image.now search.entry.query.now nodes.now slot goal }
 {
     match goal {
         None => without_goal(nodes, slot),
-        Some((holder, index)) => with_goal(image, query, nodes, slot, holder, index),
+        Some((holder, index)) => with_goal(search, nodes, slot, holder, index),
     }
 }
 
 // The first goal of a slot by the rules.
 #[tactic(auto, unfolding(model::specs::Damage::rule_goal))]
-fn rule_goal<'a>(image: &'a [u32], query: &'a [u32], nodes: &[u32], slot: u32) -> FirstGoal
-    ensures { result ≡ rule_goal image.now query.now nodes.now slot }
+fn rule_goal(search: Search<'_>, nodes: &[u32], slot: u32) -> FirstGoal
+    ensures { result ≡ rule_goal search.entry.image.now search.entry.query.now nodes.now slot }
 {
     if slot == 0 {
         return Some((0, 0));
     }
     let parent = memory::parent(nodes, slot);
-    goals::child_goal(
-        image,
-        query,
+    search.child_goal(
         nodes,
         slot,
-        goals::goals_of(image, query, nodes, slot),
+        search.goals_of(nodes, slot),
         memory::frame(nodes, parent),
         memory::goal_index(nodes, parent),
     )
@@ -159,75 +146,55 @@ fn base_sound(nodes: &[u32], slot: u32) -> bool
 }
 
 // How many variables a slot's clause has.
-fn clause_variables<'a>(image: &'a [u32], query: &'a [u32], nodes: &[u32], slot: u32) -> u32
-    ensures { result ≡ variables (clause_of image.now query.now nodes.now slot) }
+fn clause_variables(search: Search<'_>, nodes: &[u32], slot: u32) -> u32
+    ensures { result ≡ variables (clause_of search.entry.image.now search.entry.query.now nodes.now slot) }
 {
     let at = memory::clause_position(nodes, slot) as usize;
-    words::variables(words::word_at(goals::clause_words(image, query, nodes, slot), at))
+    words::variables(words::word_at(search.clause_words(nodes, slot), at))
 }
 
 // A slot's variables, base and first goal follow the rules.
 #[tactic(auto, unfolding(model::specs::Damage::node_sound))]
-fn node_sound<'a>(image: &'a [u32], query: &'a [u32], nodes: &[u32], slot: u32) -> bool
-    ensures { result ≡ node_sound image.now query.now nodes.now slot }
+fn node_sound(search: Search<'_>, nodes: &[u32], slot: u32) -> bool
+    ensures { result ≡ node_sound search.entry.image.now search.entry.query.now nodes.now slot }
 {
-    memory::own_variables(nodes, slot) == clause_variables(image, query, nodes, slot)
+    memory::own_variables(nodes, slot) == clause_variables(search, nodes, slot)
         && base_sound(nodes, slot)
-        && goal_sound(
-            image,
-            query,
-            nodes,
-            slot,
-            rule_goal(image, query, nodes, slot),
-        )
+        && goal_sound(search, nodes, slot, rule_goal(search, nodes, slot))
 }
 
 // A slot's zero fields, and its links if it is used; zero throughout if not.
 #[tactic(auto, unfolding(model::specs::Damage::slot_linked))]
-fn slot_linked<'a>(
-    image: &'a [u32],
-    query: &'a [u32],
-    nodes: &[u32],
-    cells: &[u32],
-    trail: &[u32],
-    slot: u32,
-) -> bool
-    ensures { result ≡ slot_linked image.now query.now nodes.now cells.now trail.now slot }
+fn slot_linked(search: Search<'_>, tree: Tree<'_>, slot: u32) -> bool
+    ensures { result ≡ slot_linked search.entry.image.now search.entry.query.now tree.entry.nodes.now tree.entry.cells.now tree.entry.trail.now slot }
 {
-    if !zero_fields(nodes, slot) {
+    if !zero_fields(tree.nodes, slot) {
         return false;
     }
-    if memory::used(nodes, slot) != 1 {
-        return free_zero(nodes, cells, trail, slot);
+    if memory::used(tree.nodes, slot) != 1 {
+        return free_zero(tree, slot);
     }
-    slot == 0 || linked(image, query, nodes, slot)
+    slot == 0 || linked(search, tree.nodes, slot)
 }
 
 // A used slot's clause, cells and trail.
 #[tactic(auto, unfolding(model::specs::Damage::slot_sound))]
-fn slot_sound<'a>(
-    image: &'a [u32],
-    query: &'a [u32],
-    nodes: &[u32],
-    cells: &[u32],
-    trail: &[u32],
-    slot: u32,
-) -> bool
-    ensures { result ≡ slot_sound image.now query.now nodes.now cells.now trail.now slot }
+fn slot_sound(search: Search<'_>, tree: Tree<'_>, slot: u32) -> bool
+    ensures { result ≡ slot_sound search.entry.image.now search.entry.query.now tree.entry.nodes.now tree.entry.cells.now tree.entry.trail.now slot }
 {
-    memory::used(nodes, slot) != 1
-        || (node_sound(image, query, nodes, slot)
-            && bindings::cells_sound(nodes, cells, slot)
-            && bindings::trail_sound(nodes, cells, trail, slot))
+    memory::used(tree.nodes, slot) != 1
+        || (node_sound(search, tree.nodes, slot)
+            && tree.cells_sound(slot)
+            && tree.trail_sound(slot))
 }
 
 // A worker's array holds the trail entries from a slot up to the root, and nothing else.
-fn array_sound(nodes: &[u32], trail: &[u32], arrays: &[u32], worker: u32, slot: u32) -> bool
-    ensures { result ≡ same_words 2048 (array_of arrays.now worker) (path_array nodes.now trail.now slot) 0 }
+fn array_sound(tree: Tree<'_>, arrays: &[u32], worker: u32, slot: u32) -> bool
+    ensures { result ≡ same_words 2048 (array_of arrays.now worker) (path_array tree.entry.nodes.now tree.entry.trail.now slot) 0 }
 {
     let mut array = [0u32; 2048];
-    let depth = memory::depth(nodes, slot);
-    memory::climb::<PutIn>(&mut array, nodes, trail, 0, slot, depth, 0);
+    let depth = memory::depth(tree.nodes, slot);
+    memory::climb::<PutIn>(&mut array, tree.nodes, tree.trail, 0, slot, depth, 0);
     (0..2048u32).all(|k| {
         let at = 2048 * worker as usize + k as usize;
         words::word_at(arrays, at) == words::word_at(&array, k as usize)
@@ -236,27 +203,19 @@ fn array_sound(nodes: &[u32], trail: &[u32], arrays: &[u32], worker: u32, slot: 
 
 // A worker's slot is used, and its array is that of its slot.
 #[tactic(auto, unfolding(model::specs::Damage::worker_sound))]
-fn worker_sound(nodes: &[u32], trail: &[u32], arrays: &[u32], workers: &[u32], worker: u32) -> bool
-    ensures { result ≡ worker_sound nodes.now trail.now arrays.now workers.now worker }
+fn worker_sound(tree: Tree<'_>, arrays: &[u32], workers: &[u32], worker: u32) -> bool
+    ensures { result ≡ worker_sound tree.entry.nodes.now tree.entry.trail.now arrays.now workers.now worker }
 {
     let slot = words::word_at(workers, worker as usize);
-    slot < 64 && memory::used(nodes, slot) == 1 && array_sound(nodes, trail, arrays, worker, slot)
+    slot < 64 && memory::used(tree.nodes, slot) == 1 && array_sound(tree, arrays, worker, slot)
 }
 
 // Is the memory sound for an image and a query: 21 is given exactly when it is not.
-pub fn sound<'a>(
-    image: &'a [u32],
-    query: &'a [u32],
-    nodes: &[u32],
-    cells: &[u32],
-    trail: &[u32],
-    arrays: &[u32],
-    workers: &[u32],
-) -> bool
-    ensures { result ≡ sound image.now query.now (memory nodes.now cells.now trail.now arrays.now workers.now) }
+pub fn sound(search: Search<'_>, tree: Tree<'_>, arrays: &[u32], workers: &[u32]) -> bool
+    ensures { result ≡ sound search.entry.image.now search.entry.query.now (memory tree.entry.nodes.now tree.entry.cells.now tree.entry.trail.now arrays.now workers.now) }
 {
-    root_sound(nodes)
-        && (0..64).all(|slot| slot_linked(image, query, nodes, cells, trail, slot))
-        && (0..64).all(|slot| slot_sound(image, query, nodes, cells, trail, slot))
-        && (0..4).all(|worker| worker_sound(nodes, trail, arrays, workers, worker))
+    root_sound(tree.nodes)
+        && (0..64).all(|slot| slot_linked(search, tree, slot))
+        && (0..64).all(|slot| slot_sound(search, tree, slot))
+        && (0..4).all(|worker| worker_sound(tree, arrays, workers, worker))
 }

@@ -7,6 +7,14 @@ ghost use Rattle.model.specs.Damage.{each, zeros, on_path, owner_of, ref_sound, 
 
 use model::Kind;
 
+// The tree as it is stored: the node records, the variables' cells and the trails.
+#[derive(Clone, Copy)]
+pub struct Tree<'a> {
+    pub nodes: &'a [u32],
+    pub cells: &'a [u32],
+    pub trail: &'a [u32],
+}
+
 // So many words from a place on are 0.
 pub fn zeros(words: &[u32], start: usize, count: u32) -> bool
     requires { start < 1099511627776 }
@@ -69,27 +77,6 @@ fn value_sound(nodes: &[u32], slot: u32, number: u32, word: u32) -> bool
     tag == 1 && ref_sound(nodes, slot, number, value)
 }
 
-// A cell past the variables is 0, any other is its own VNO, a CON or a REF.
-#[tactic(auto, unfolding(model::specs::Damage::cell_sound))]
-fn cell_sound(nodes: &[u32], cells: &[u32], slot: u32, variable: u32) -> bool
-    requires { variable < 32 }
-    ensures { result ≡ cell_sound nodes.now cells.now slot variable }
-{
-    let word = words::word_at(cells, 32 * slot as usize + variable as usize);
-    if memory::own_variables(nodes, slot) <= variable {
-        return word == 0;
-    }
-    let number = memory::base(nodes, slot) + variable;
-    word == memory::value_word(0, number) || value_sound(nodes, slot, number, word)
-}
-
-// All cells of a slot.
-pub fn cells_sound(nodes: &[u32], cells: &[u32], slot: u32) -> bool
-    ensures { result ≡ each 32 (cell_sound nodes.now cells.now slot) 0 }
-{
-    (0..32).all(|variable| cell_sound(nodes, cells, slot, variable))
-}
-
 // A number is none of a slot's first entries.
 fn not_among(trail: &[u32], slot: u32, number: u32, count: u32) -> bool
     ensures { result ≡ not_among count trail.now slot number 0 }
@@ -100,59 +87,82 @@ fn not_among(trail: &[u32], slot: u32, number: u32, count: u32) -> bool
     })
 }
 
-// A number is trailed at no slot above, climbing at most so often.
-fn not_above(nodes: &[u32], trail: &[u32], start: u32, number: u32, most: u32) -> bool
-    ensures { result ≡ not_above most nodes.now trail.now start number }
-{
-    let mut slot = start;
-    for _ in 0..most {
-        slot = memory::parent(nodes, slot);
-        if !not_among(trail, slot, number, memory::entries(nodes, slot)) {
-            return false;
+impl Tree<'_> {
+    // A cell past the variables is 0, any other is its own VNO, a CON or a REF.
+    #[tactic(auto, unfolding(model::specs::Damage::cell_sound))]
+    fn cell_sound(self, slot: u32, variable: u32) -> bool
+        requires { variable < 32 }
+        ensures { result ≡ cell_sound self.entry.nodes.now self.entry.cells.now slot variable }
+    {
+        let word = words::word_at(self.cells, 32 * slot as usize + variable as usize);
+        if memory::own_variables(self.nodes, slot) <= variable {
+            return word == 0;
         }
+        let number = memory::base(self.nodes, slot) + variable;
+        word == memory::value_word(0, number) || value_sound(self.nodes, slot, number, word)
     }
-    true
-}
 
-// A slot's cell for the variable with a number is its VNO.
-#[tactic(auto, unfolding(model::specs::Damage::vno_at))]
-fn vno_at(nodes: &[u32], cells: &[u32], owner: u32, number: u32) -> bool
-    ensures { result ≡ vno_at nodes.now cells.now owner number }
-{
-    let variable = number.saturating_sub(memory::base(nodes, owner)) as usize;
-    words::word_at(cells, 32 * owner as usize + variable) == memory::value_word(0, number)
-}
+    // All cells of a slot.
+    pub fn cells_sound(self, slot: u32) -> bool
+        ensures { result ≡ each 32 (cell_sound self.entry.nodes.now self.entry.cells.now slot) 0 }
+    {
+        (0..32).all(|variable| self.cell_sound(slot, variable))
+    }
 
-// A trail entry: its number, its number's cell and its value.
-#[tactic(auto, unfolding(model::specs::Damage::entry_sound))]
-fn entry_sound(nodes: &[u32], cells: &[u32], trail: &[u32], slot: u32, entry: u32) -> bool
-    ensures { result ≡ entry_sound nodes.now cells.now trail.now slot entry }
-{
-    let at = 32 * slot as usize + 2 * entry as usize;
-    let number = words::word_at(trail, at);
-    let depth = memory::depth(nodes, slot);
-    number < memory::base(nodes, slot)
-        && not_among(trail, slot, number, entry)
-        && not_above(nodes, trail, slot, number, depth)
-        && vno_at(nodes, cells, owner_of(nodes, slot, number, depth), number)
-        && value_sound(nodes, slot, number, words::word_at(trail, at + 1))
-}
+    // A number is trailed at no slot above, climbing at most so often.
+    fn not_above(self, start: u32, number: u32, most: u32) -> bool
+        ensures { result ≡ not_above most self.entry.nodes.now self.entry.trail.now start number }
+    {
+        let mut slot = start;
+        for _ in 0..most {
+            slot = memory::parent(self.nodes, slot);
+            if !not_among(self.trail, slot, number, memory::entries(self.nodes, slot)) {
+                return false;
+            }
+        }
+        true
+    }
 
-// All trail entries of a slot.
-fn entries_sound(nodes: &[u32], cells: &[u32], trail: &[u32], slot: u32) -> bool
-    ensures { result ≡ each (entries nodes.now slot) (entry_sound nodes.now cells.now trail.now slot) 0 }
-{
-    (0..memory::entries(nodes, slot)).all(|entry| entry_sound(nodes, cells, trail, slot, entry))
-}
+    // A slot's cell for the variable with a number is its VNO.
+    #[tactic(auto, unfolding(model::specs::Damage::vno_at))]
+    fn vno_at(self, owner: u32, number: u32) -> bool
+        ensures { result ≡ vno_at self.entry.nodes.now self.entry.cells.now owner number }
+    {
+        let variable = number.saturating_sub(memory::base(self.nodes, owner)) as usize;
+        words::word_at(self.cells, 32 * owner as usize + variable) == memory::value_word(0, number)
+    }
 
-// A slot's trail: none at the root, its entries, and 0 past them.
-#[tactic(auto, unfolding(model::specs::Damage::trail_sound))]
-pub fn trail_sound(nodes: &[u32], cells: &[u32], trail: &[u32], slot: u32) -> bool
-    ensures { result ≡ trail_sound nodes.now cells.now trail.now slot }
-{
-    let count = memory::entries(nodes, slot);
-    let end = 32 * slot as usize + 2 * count as usize;
-    (slot != 0 || count == 0)
-        && entries_sound(nodes, cells, trail, slot)
-        && zeros(trail, end, 32 - 2 * count)
+    // A trail entry: its number, its number's cell and its value.
+    #[tactic(auto, unfolding(model::specs::Damage::entry_sound))]
+    fn entry_sound(self, slot: u32, entry: u32) -> bool
+        ensures { result ≡ entry_sound self.entry.nodes.now self.entry.cells.now self.entry.trail.now slot entry }
+    {
+        let at = 32 * slot as usize + 2 * entry as usize;
+        let number = words::word_at(self.trail, at);
+        let depth = memory::depth(self.nodes, slot);
+        number < memory::base(self.nodes, slot)
+            && not_among(self.trail, slot, number, entry)
+            && self.not_above(slot, number, depth)
+            && self.vno_at(owner_of(self.nodes, slot, number, depth), number)
+            && value_sound(self.nodes, slot, number, words::word_at(self.trail, at + 1))
+    }
+
+    // All trail entries of a slot.
+    fn entries_sound(self, slot: u32) -> bool
+        ensures { result ≡ each (entries self.entry.nodes.now slot) (entry_sound self.entry.nodes.now self.entry.cells.now self.entry.trail.now slot) 0 }
+    {
+        (0..memory::entries(self.nodes, slot)).all(|entry| self.entry_sound(slot, entry))
+    }
+
+    // A slot's trail: none at the root, its entries, and 0 past them.
+    #[tactic(auto, unfolding(model::specs::Damage::trail_sound))]
+    pub fn trail_sound(self, slot: u32) -> bool
+        ensures { result ≡ trail_sound self.entry.nodes.now self.entry.cells.now self.entry.trail.now slot }
+    {
+        let count = memory::entries(self.nodes, slot);
+        let end = 32 * slot as usize + 2 * count as usize;
+        (slot != 0 || count == 0)
+            && self.entries_sound(slot)
+            && zeros(self.trail, end, 32 - 2 * count)
+    }
 }

@@ -5,6 +5,8 @@ ghost use Rattle.std.specs.Prelude.{◌≡◌, length};
 ghost use Rattle.model.specs.Memory.{memory};
 ghost use Rattle.model.specs.Calls.{lengths_right, load_refusal, call_refusal, loaded_to, load_call, step_called, step_call, run_called, run_call, move_refusal, move_called, move_call, read_refusal, read_called, read_call};
 
+use bindings::Tree;
+use goals::Search;
 use model::{MoveAnswer, Refusal, Refused, RunAnswer, StepAnswer, Verdict, Written};
 
 const WORKERS: u32 = 4;
@@ -60,7 +62,12 @@ fn call_refusal<'a>(
     ensures { result ≡ call_refusal image.now query.now (memory nodes.now cells.now trail.now arrays.now workers.now) worker }
 {
     load_refusal(image, query, nodes, cells, trail, arrays, workers)?;
-    if !audit::sound(image, query, nodes, cells, trail, arrays, workers) {
+    let tree = Tree {
+        nodes,
+        cells,
+        trail,
+    };
+    if !audit::sound(Search { image, query }, tree, arrays, workers) {
         return Err(Refused(Refusal::Damaged, 0));
     }
     if WORKERS <= worker {

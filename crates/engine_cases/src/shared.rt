@@ -5,7 +5,9 @@ use crate::answers::digest;
 use crate::calling::answer_agrees;
 use crate::stored::{Call, Change, Slice, read_list};
 use crate::tally::Tally;
+use bindings::Tree;
 use files::next_word;
+use goals::Search;
 use std::fs::File;
 
 #[derive(Drop)]
@@ -85,12 +87,18 @@ impl Shared {
     }
 
     fn is_sound(&self) -> bool {
+        let search = Search {
+            image: without_spare(&self.image[..self.image_words]),
+            query: without_spare(&self.query[..self.query_words]),
+        };
+        let tree = Tree {
+            nodes: without_spare(&self.nodes),
+            cells: without_spare(&self.cells),
+            trail: without_spare(&self.trail),
+        };
         audit::sound(
-            without_spare(&self.image[..self.image_words]),
-            without_spare(&self.query[..self.query_words]),
-            without_spare(&self.nodes),
-            without_spare(&self.cells),
-            without_spare(&self.trail),
+            search,
+            tree,
             without_spare(&self.arrays),
             without_spare(&self.workers),
         )

@@ -7,6 +7,8 @@ ghost use Rattle.model.specs.Steps.{goal_of};
 ghost use Rattle.recall.specs.Recall.{recalled, kept};
 ghost use Rattle.recall.specs.Places.{GoalsKept, ClausesKept};
 
+use goals::Search;
+
 // What was found before for a slot and a key, if anything. A place of 0 is none: the query's word and the image's header stand there.
 #[tactic(auto, unfolding(crate::specs::Recall::recalled))]
 fn recall(memo: &[u32], slot: u32, key: u32) -> Option<u32>
@@ -32,22 +34,16 @@ fn keep(memo: &mut [u32], slot: u32, key: u32, found: u32)
 }
 
 // The place of a node's first goal.
-pub fn goal_place<'a>(
-    image: &'a [u32],
-    query: &'a [u32],
-    nodes: &[u32],
-    places: &mut [u32],
-    node: u32,
-) -> usize
-    requires { GoalsKept image.now query.now places.old }
-    ensures { (result ≡ goal_of image.now query.now nodes.now node) × GoalsKept image.now query.now places.new }
+pub fn goal_place(search: Search<'_>, nodes: &[u32], places: &mut [u32], node: u32) -> usize
+    requires { GoalsKept search.image.now search.query.now places.old }
+    ensures { (result ≡ goal_of search.entry.image.now search.entry.query.now nodes.now node) × GoalsKept search.entry.image.now search.entry.query.now places.new }
 {
     let slot = memory::frame(nodes, node);
     let key = 16 * memory::clause_position(nodes, slot) + memory::goal_index(nodes, node);
     if let Some(place) = recall(places, node, key) {
         return place as usize;
     }
-    let place = goals::goal_of(image, query, nodes, node);
+    let place = search.goal_of(nodes, node);
     keep(places, node, key, place as u32);
     place
 }

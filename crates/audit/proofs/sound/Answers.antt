@@ -9,10 +9,10 @@ use Rattle.audit.proofs.sound.Goals as goal
 pub returns-then-all-2 : goal.returns-then-all-2
 unfolding sound
 returns-then-all-2 c = let a = c.args in
-    let linked = slot_linked a.image.now a.query.now a.nodes.now a.cells.now a.trail.now in
-    let slots = slot_sound a.image.now a.query.now a.nodes.now a.cells.now a.trail.now in
-    let workers = worker_sound a.nodes.now a.trail.now a.arrays.now a.workers.now in
-    and-four _ _ _ (root_sound a.nodes.now) (each 64 linked 0) (each 64 slots 0) (each 4 workers 0)
+    let linked = slot_linked a.search.image.now a.search.query.now a.tree.nodes.now a.tree.cells.now a.tree.trail.now in
+    let slots = slot_sound a.search.image.now a.search.query.now a.tree.nodes.now a.tree.cells.now a.tree.trail.now in
+    let workers = worker_sound a.tree.nodes.now a.tree.trail.now a.arrays.now a.workers.now in
+    and-four _ _ _ (root_sound a.tree.nodes.now) (each 64 linked 0) (each 64 slots 0) (each 4 workers 0)
     (elim c.if-root_sound.branch [
       | then-root_sound w ↦ and-then _ _ _ (sym c.root_sound.ensures ∙ w.if-root_sound.true) (w.value-is ∙ each-from_all _ _ _ linked 0 64 64 refl refl w.all.ensures.ran (λ x q k. search (rules, tests)) (λ x q k. search (rules, tests)))
       | else-root_sound w ↦ and-else _ _ _ (sym c.root_sound.ensures ∙ w.if-root_sound.false) (w.value-is ∙ c.root_sound.ensures)
@@ -26,10 +26,10 @@ returns-then-all-2 c = let a = c.args in
 pub returns-else-all-2 : goal.returns-else-all-2
 unfolding sound
 returns-else-all-2 c = let a = c.args in
-    let linked = slot_linked a.image.now a.query.now a.nodes.now a.cells.now a.trail.now in
-    let slots = slot_sound a.image.now a.query.now a.nodes.now a.cells.now a.trail.now in
-    let workers = worker_sound a.nodes.now a.trail.now a.arrays.now a.workers.now in
-    and-four _ _ _ (root_sound a.nodes.now) (each 64 linked 0) (each 64 slots 0) (each 4 workers 0)
+    let linked = slot_linked a.search.image.now a.search.query.now a.tree.nodes.now a.tree.cells.now a.tree.trail.now in
+    let slots = slot_sound a.search.image.now a.search.query.now a.tree.nodes.now a.tree.cells.now a.tree.trail.now in
+    let workers = worker_sound a.tree.nodes.now a.tree.trail.now a.arrays.now a.workers.now in
+    and-four _ _ _ (root_sound a.tree.nodes.now) (each 64 linked 0) (each 64 slots 0) (each 4 workers 0)
     (elim c.if-root_sound.branch [
       | then-root_sound w ↦ and-then _ _ _ (sym c.root_sound.ensures ∙ w.if-root_sound.true) (w.value-is ∙ each-from_all _ _ _ linked 0 64 64 refl refl w.all.ensures.ran (λ x q k. search (rules, tests)) (λ x q k. search (rules, tests)))
       | else-root_sound w ↦ and-else _ _ _ (sym c.root_sound.ensures ∙ w.if-root_sound.false) (w.value-is ∙ c.root_sound.ensures)

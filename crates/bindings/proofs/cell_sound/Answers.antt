@@ -1,7 +1,0 @@
--- `bindings::cell_sound` meets its contract: a base is a field of 12 bits. Assumes nothing.
-use Rattle.std.proofs.Common.{arith}
-use Rattle.memory.proofs.FieldBounds.{base-lt}
-use Rattle.bindings.proofs.cell_sound.Goals as goal
-
-pub overflow_add-number : goal.overflow_add-number
-overflow_add-number c = omega (arith, c.base.ensures, base-lt c.args.nodes.now c.args.slot, c.requires)
