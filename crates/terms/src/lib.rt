@@ -1,11 +1,28 @@
 // Dereferencing, binding and unifying in words: document 01, "Unifying". The array is one worker's own part of the arrays.
+// Before a slice of a lent store is lent on, it is taken into a variable: so the check knows it afterwards.
 #![tactic(auto)]
 
 ghost use Rattle.std.specs.Prelude.{◌≡◌, ◌+◌, ◌≤◌, ◌<◌, get_or};
 ghost use Rattle.model.specs.Memory.{cell_of};
-ghost use Rattle.model.specs.Terms.{says, found_said, dereference, argument_of, store, bind, pairing, unify_pair, unify_words, unify_head};
+ghost use Rattle.model.specs.Terms.{says, found_said, dereference, argument_of, bind, pairing, unify_pair, unify_words, unify_head};
+ghost use Rattle.terms.specs.Stores.{stored, SameStore};
 
 use model::{CellAddr, Clash, Found, Pairing, VarNo};
+
+// What unifying changes: a worker's array, and the cells and trail words of all slots.
+#[derive(Drop)]
+pub struct Store<'a> {
+    pub array: &'a mut [u32],
+    pub cells: &'a mut [u32],
+    pub trail: &'a mut [u32],
+}
+
+// The child that is made: its slot, and the number of its first variable.
+#[derive(Clone, Copy)]
+pub struct Child {
+    pub slot: u32,
+    pub base: u32,
+}
 
 // What a cell says where nothing is bound there.
 const UNBOUND: u32 = 0;
@@ -64,24 +81,25 @@ pub fn argument_of(array: &[u32], cells: &[u32], slot: u32, word: u32) -> Found
 // Binds a variable that was found unbound, for a child in a slot: into array and trail where it is conditional, else into its cell.
 #[tactic(auto, unfolding(model::specs::Terms::bind))]
 fn bind(
-    array: &mut [u32],
-    cells: &mut [u32],
-    trail: &mut [u32],
-    child: u32,
-    child_base: u32,
+    store: &mut Store<'_>,
+    child: Child,
     count: u32,
     number: VarNo,
     address: CellAddr,
     word: u32,
 ) -> Result<u32, Clash>
     requires { count < 65536 }
-    ensures { store array.new cells.new trail.new result ≡ bind child child_base array.old cells.old trail.old count number address word }
+    ensures did { stored store.new result ≡ bind child.slot child.base store.old.array.now store.old.cells.now store.old.trail.now count number address word }
+    ensures lent { SameStore store.old store.new }
 {
-    if child_base <= number.0 {
+    if child.base <= number.0 {
+        let cells = &mut *store.cells;
         words::put(cells, address.0 as usize, word);
         return Ok(count);
     }
-    let at = 32 * child as usize + 2 * count as usize;
+    let array = &mut *store.array;
+    let trail = &mut *store.trail;
+    let at = 32 * child.slot as usize + 2 * count as usize;
     words::put(array, number.0 as usize, word);
     words::put(trail, at, number.0);
     words::put(trail, at + 1, word);
@@ -113,73 +131,59 @@ fn pairing(a: Found, b: Found) -> Pairing
 }
 
 #[tactic(auto, unfolding(model::specs::Terms::unify_pair))]
-fn unify_pair(
-    array: &mut [u32],
-    cells: &mut [u32],
-    trail: &mut [u32],
-    child: u32,
-    child_base: u32,
-    count: u32,
-    pair: Pairing,
-) -> Result<u32, Clash>
+fn unify_pair(store: &mut Store<'_>, child: Child, count: u32, pair: Pairing) -> Result<u32, Clash>
     requires { count < 65536 }
-    ensures { store array.new cells.new trail.new result ≡ unify_pair child child_base array.old cells.old trail.old count pair }
+    ensures did { stored store.new result ≡ unify_pair child.slot child.base store.old.array.now store.old.cells.now store.old.trail.now count pair }
+    ensures lent { SameStore store.old store.new }
 {
     match pair {
         Pairing::Nothing => Ok(count),
         Pairing::Clash => Err(Clash(count)),
-        Pairing::Binds(number, address, word) => bind(
-            array, cells, trail, child, child_base, count, number, address, word,
-        ),
+        Pairing::Binds(number, address, word) => bind(store, child, count, number, address, word),
     }
 }
 
 // A head argument with a goal's argument, both dereferenced.
 #[tactic(auto, unfolding(model::specs::Terms::unify_words))]
 fn unify_words(
-    array: &mut [u32],
-    cells: &mut [u32],
-    trail: &mut [u32],
-    child: u32,
-    child_base: u32,
+    store: &mut Store<'_>,
+    child: Child,
     slot: u32,
     head: u32,
     goal: u32,
     count: u32,
 ) -> Result<u32, Clash>
-    requires { (child < 65536) × (slot < 65536) × (count < 65536) }
-    ensures { store array.new cells.new trail.new result ≡ unify_words child child_base slot head goal array.old cells.old trail.old count }
+    requires { (child.slot < 65536) × (slot < 65536) × (count < 65536) }
+    ensures did { stored store.new result ≡ unify_words child.slot child.base slot head goal store.old.array.now store.old.cells.now store.old.trail.now count }
+    ensures lent { SameStore store.old store.new }
 {
-    let a = argument_of(array, cells, child, head);
+    let array = &mut *store.array;
+    let cells = &mut *store.cells;
+    let a = argument_of(array, cells, child.slot, head);
     let b = argument_of(array, cells, slot, goal);
-    let pair = pairing(a, b);
-    unify_pair(array, cells, trail, child, child_base, count, pair)
+    unify_pair(store, child, count, pairing(a, b))
 }
 
 // Head arguments with the first goal's, left to right, into a child of no entries yet.
 pub fn unify_head(
     image: &[u32],
     words: &[u32],
-    array: &mut [u32],
-    cells: &mut [u32],
-    trail: &mut [u32],
-    child: u32,
-    child_base: u32,
+    store: &mut Store<'_>,
+    child: Child,
     slot: u32,
     head: usize,
     goal: usize,
     arity: u32,
 ) -> Result<u32, Clash>
-    requires { (child < 65536) × (slot < 65536) × (head < 1099511627776) × (goal < 1099511627776) × (arity < 65536) }
-    ensures { store array.new cells.new trail.new result ≡ unify_head arity image.now words.now child child_base slot head goal array.old cells.old trail.old 0 }
+    requires { (child.slot < 65536) × (slot < 65536) × (head < 1099511627776) × (goal < 1099511627776) × (arity < 65536) }
+    ensures did { stored store.new result ≡ unify_head arity image.now words.now child.slot child.base slot head goal store.old.array.now store.old.cells.now store.old.trail.now 0 }
+    ensures lent { SameStore store.old store.new }
 {
     let mut count: u32 = 0;
     for k in 0..arity {
         let ours = words::word_at(image, head + k as usize);
         let theirs = words::word_at(words, goal + k as usize);
-        count = unify_words(
-            array, cells, trail, child, child_base, slot, ours, theirs, count,
-        )?;
+        count = unify_words(store, child, slot, ours, theirs, count)?;
     }
     Ok(count)
 }
