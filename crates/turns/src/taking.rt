@@ -4,40 +4,38 @@ ghost use Rattle.model.specs.Decoding.{clause_at};
 ghost use Rattle.model.specs.Fields.{sequential};
 ghost use Rattle.model.specs.Image.{predicate_word};
 ghost use Rattle.model.specs.Memory.{tried};
-ghost use Rattle.recall.specs.Places.{ClausesKept};
 ghost use Rattle.children.specs.Children.{Counted};
+ghost use Rattle.goals.specs.Calls.{IsCall};
+ghost use Rattle.memory.specs.Views.{words_of, SameSlices};
+ghost use Rattle.turns.specs.Hand.{HandTrue, SameTables};
 ghost use Rattle.turns.specs.Progress.{Progressed};
-ghost use Rattle.model.specs.Steps.{view, stepped, live, goal_of, has_child, lowest_free, predicate_of, take_clause};
+ghost use Rattle.model.specs.Steps.{stepped, live, has_child, lowest_free, take_clause};
 
-use crate::Progress;
+use crate::{Hand, Progress};
+use goals::{Call, Search};
+use memory::View;
 use model::Outcome;
 
 // The clause at a position is taken, and the table of children follows the child's slot.
-fn take_one<'a>(
-    image: &'a [u32],
-    query: &'a [u32],
-    nodes: &mut [u32],
-    cells: &mut [u32],
-    trail: &mut [u32],
-    array: &mut [u32],
-    workers: &mut [u32],
+fn take_one(
+    search: Search<'_>,
+    view: &mut View<'_>,
     children: &mut [u32],
     worker: u32,
-    node: u32,
+    call: Call,
     child: u32,
-    predicate: u32,
-    place: usize,
     position: u32,
 ) -> Outcome
-    requires clause_found { (child < 64) × (predicate ≡ predicate_of image.now query.now nodes.old node) × (place ≡ goal_of image.now query.now nodes.old node) × (position ≡ clause_at image.now predicate (tried nodes.old node)) }
-    requires counted { Counted nodes.old children.old }
-    ensures { (stepped result (view nodes.new cells.new trail.new array.new workers.new) ≡ take_clause image.now query.now (view nodes.old cells.old trail.old array.old workers.old) worker node child) × Counted nodes.new children.new }
+    requires clause_found { (child < 64) × IsCall search.image.now search.query.now view.old.nodes.now call × (position ≡ clause_at search.image.now call.predicate (tried view.old.nodes.now call.node)) }
+    requires counted { Counted view.old.nodes.now children.old }
+    ensures did { stepped result (words_of view.new) ≡ take_clause search.entry.image.now search.entry.query.now (words_of view.old) worker call.node child }
+    ensures counted { Counted view.new.nodes.now children.new }
+    ensures lent { SameSlices view.old view.new }
 {
+    let nodes = &mut *view.nodes;
     let before = words::word_at(nodes, 4 * child as usize);
-    let outcome = extension::take_clause(
-        image, query, nodes, cells, trail, array, workers, worker, node, child, predicate, place,
-        position,
-    );
+    let outcome = extension::take_clause(search, view, worker, call, child, position);
+    let nodes = &mut *view.nodes;
     children::follow(nodes, children, child, before);
     outcome
 }
@@ -50,45 +48,31 @@ fn allowed(look: bool, most: u32) -> u32
 }
 
 // Rule 7. The next clause is taken; where its head is sure to fail, it and those behind it that are too, at most so many.
-pub fn take_next<'a>(
-    image: &'a [u32],
-    query: &'a [u32],
-    nodes: &mut [u32],
-    cells: &mut [u32],
-    trail: &mut [u32],
-    array: &mut [u32],
-    workers: &mut [u32],
-    clauses: &mut [u32],
-    children: &mut [u32],
+pub fn take_next(
+    search: Search<'_>,
+    view: &mut View<'_>,
+    hand: &mut Hand<'_>,
     worker: u32,
-    node: u32,
+    call: Call,
     child: u32,
-    predicate: u32,
-    place: usize,
     look: bool,
     most: u32,
 ) -> Progress
-    requires live_node { (node ≡ get_or workers.old worker 0) × (live image.now query.now nodes.old node ≡ true) × (predicate ≡ predicate_of image.now query.now nodes.old node) × (place ≡ goal_of image.now query.now nodes.old node) × (0 < most) }
-    requires free_child { ((eqb (sequential (predicate_word image.now predicate)) 1 && has_child nodes.old node) ≡ false) × (child ≡ lowest_free nodes.old) × (child < 64) }
-    requires tables_true { ClausesKept image.now clauses.old × Counted nodes.old children.old }
-    ensures { (Progressed result most image.now query.now worker (view nodes.old cells.old trail.old array.old workers.old) (view nodes.new cells.new trail.new array.new workers.new)) × ClausesKept image.now clauses.new × Counted nodes.new children.new }
+    requires live_node { (call.node ≡ get_or view.old.workers.now worker 0) × (live search.image.now search.query.now view.old.nodes.now call.node ≡ true) × IsCall search.image.now search.query.now view.old.nodes.now call × (0 < most) }
+    requires free_child { ((eqb (sequential (predicate_word search.image.now call.predicate)) 1 && has_child view.old.nodes.now call.node) ≡ false) × (child ≡ lowest_free view.old.nodes.now) × (child < 64) }
+    requires tables_true { HandTrue search.image.now search.query.now view.old.nodes.now hand.old }
+    ensures did { Progressed result most search.entry.image.now search.entry.query.now worker (words_of view.old) (words_of view.new) }
+    ensures tables_true { HandTrue search.entry.image.now search.entry.query.now view.new.nodes.now hand.new }
+    ensures lent { SameSlices view.old view.new × SameTables hand.old hand.new }
 {
+    let image = search.image;
+    let node = call.node;
+    let predicate = call.predicate;
+    let nodes = &mut *view.nodes;
     let tried = memory::tried(nodes, node);
+    let clauses = &mut *hand.clauses;
     let position = recall::clause_place(image, clauses, node, predicate, tried);
-    let stretch = passing::skip(
-        image,
-        query,
-        nodes,
-        cells,
-        trail,
-        array,
-        node,
-        child,
-        predicate,
-        place,
-        position,
-        allowed(look, most),
-    );
+    let stretch = passing::skip(search, view, call, child, position, allowed(look, most));
     let passed = stretch.count;
     if 0 < passed {
         let next = stretch.position;
@@ -97,8 +81,6 @@ pub fn take_next<'a>(
     }
     let next = position + words::clause_length(words::word_at(image, position as usize));
     recall::keep_clause(image, clauses, node, predicate, tried + 1, next);
-    Progress::Did(take_one(
-        image, query, nodes, cells, trail, array, workers, children, worker, node, child,
-        predicate, place, position,
-    ))
+    let children = &mut *hand.children;
+    Progress::Did(take_one(search, view, children, worker, call, child, position))
 }
