@@ -6,9 +6,12 @@ ghost use Rattle.model.specs.Image.{predicate_word};
 ghost use Rattle.model.specs.Fields.{clause_count};
 ghost use Rattle.model.specs.Decoding.{clause_from};
 ghost use Rattle.model.specs.Memory.{tried};
+ghost use Rattle.memory.specs.Views.{words_of, SameSlices};
 ghost use Rattle.passing.specs.Clash.{compare, clashes, fails_plainly};
-ghost use Rattle.passing.specs.Passing.{passing, pass_over, blank, skipped};
+ghost use Rattle.passing.specs.Passing.{passing, pass_over, blank, skipped, with_nodes};
 
+use goals::{Call, Search};
+use memory::View;
 use model::Found;
 
 // What a head's argument and a goal's come to while nothing is bound: they differ, they agree or one takes the other, or it is not known.
@@ -26,118 +29,83 @@ pub struct Stretch {
     pub position: u32,
 }
 
-#[tactic(auto, unfolding(crate::specs::Clash::compare, crate::specs::Clash::compared_with))]
-fn compare(
-    array: &[u32],
-    cells: &[u32],
-    child_base: u32,
-    slot: u32,
-    head: u32,
-    goal: u32,
-) -> Compared
-    requires { slot < 65536 }
-    ensures { result ≡ compare child_base array.now cells.now slot head goal }
-{
-    if words::op(head) == 1 {
-        return Compared::Unsure;
-    }
-    match terms::argument_of(array, cells, slot, goal) {
-        Found::Constant(theirs) if words::constant(head) == theirs => Compared::Agree,
-        Found::Constant(_) => Compared::Differ,
-        Found::Unbound(number, _) if number.0 < child_base => Compared::Agree,
-        Found::Unbound(_, _) => Compared::Unsure,
-    }
-}
-
-// Whether so many arguments of a head and of a goal differ in a constant.
-fn clashes(
-    image: &[u32],
-    words: &[u32],
-    array: &[u32],
-    cells: &[u32],
+// A goal as it is tried against the heads of its predicate's clauses: the image, and the words that the goal stands in; the worker's array and the cells;
+// the slot whose clause the goal is of, the first of the child's variables, the goal's place and its arity.
+// What is searched by and what the worker has are lent for a time each: with one lifetime for both, the check would not know the worker's words afterwards.
+#[derive(Clone, Copy)]
+struct Attempt<'s, 'v> {
+    image: &'s [u32],
+    words: &'s [u32],
+    array: &'v [u32],
+    cells: &'v [u32],
     slot: u32,
     child_base: u32,
-    head: usize,
-    goal: usize,
-    arity: u32,
-) -> bool
-    requires { (slot < 65536) × (head < 1099511627776) × (goal < 1099511627776) × (arity < 65536) }
-    ensures { result ≡ clashes arity image.now words.now array.now cells.now slot child_base head goal }
-{
-    for k in 0..arity as usize {
-        let ours = words::word_at(image, head + k);
-        let theirs = words::word_at(words, goal + k);
-        match compare(array, cells, child_base, slot, ours, theirs) {
-            Compared::Differ => return true,
-            Compared::Agree => {}
-            Compared::Unsure => return false,
-        }
-    }
-    false
-}
-
-// Whether the clause at a position is sure to fail.
-#[tactic(auto, unfolding(crate::specs::Clash::fails_plainly))]
-fn fails_plainly(
-    image: &[u32],
-    words: &[u32],
-    array: &[u32],
-    cells: &[u32],
-    slot: u32,
-    child_base: u32,
-    position: u32,
     place: usize,
     arity: u32,
-) -> bool
-    requires { (slot < 65536) × (place < 1048576) × (arity < 65536) }
-    ensures { result ≡ fails_plainly arity image.now words.now array.now cells.now slot child_base position place }
-{
-    let at = position as usize;
-    words::variables(words::word_at(image, at)) == 0
-        && clashes(
-            image,
-            words,
-            array,
-            cells,
-            slot,
-            child_base,
-            at + 1,
-            place + 1,
-            arity,
-        )
 }
 
-// At most so many clauses from a position on, as long as each is sure to fail; for each the node's tried count rises. Answers how many, and the place behind them.
-fn pass_over(
-    image: &[u32],
-    words: &[u32],
-    nodes: &mut [u32],
-    array: &[u32],
-    cells: &[u32],
-    slot: u32,
-    child_base: u32,
-    start: u32,
-    place: usize,
-    arity: u32,
-    node: u32,
-    most: u32,
-) -> Stretch
-    requires { (slot < 65536) × (place < 1048576) × (arity < 65536) × (most < 1024) × (start < 134217728) }
-    ensures { (passing nodes.new result.count ≡ pass_over arity node image.now words.now array.now cells.now slot child_base place most 0 nodes.old start) × (result.position ≡ clause_from image.now start result.count) }
-{
-    let mut position = start;
-    for count in 0..most {
-        if !fails_plainly(
-            image, words, array, cells, slot, child_base, position, place, arity,
-        ) {
-            return Stretch { count, position };
+impl<'s, 'v> Attempt<'s, 'v> {
+    #[tactic(auto, unfolding(crate::specs::Clash::compare, crate::specs::Clash::compared_with))]
+    fn compare(self, head: u32, goal: u32) -> Compared
+        requires { self.slot < 65536 }
+        ensures { result ≡ compare self.entry.child_base self.entry.array.now self.entry.cells.now self.entry.slot head goal }
+    {
+        if words::op(head) == 1 {
+            return Compared::Unsure;
         }
-        memory::raise(nodes, node);
-        position += words::clause_length(words::word_at(image, position as usize));
+        match terms::argument_of(self.array, self.cells, self.slot, goal) {
+            Found::Constant(theirs) if words::constant(head) == theirs => Compared::Agree,
+            Found::Constant(_) => Compared::Differ,
+            Found::Unbound(number, _) if number.0 < self.child_base => Compared::Agree,
+            Found::Unbound(_, _) => Compared::Unsure,
+        }
     }
-    Stretch {
-        count: most,
-        position,
+
+    // Whether a head's arguments, from a place on, and the goal's differ in a constant.
+    fn clashes(self, head: usize) -> bool
+        requires { (self.slot < 65536) × (head < 1099511627776) × (self.place < 1048576) × (self.arity < 65536) }
+        ensures { result ≡ clashes self.entry.arity self.entry.image.now self.entry.words.now self.entry.array.now self.entry.cells.now self.entry.slot self.entry.child_base head (self.entry.place + 1) }
+    {
+        let goal = self.place + 1;
+        for k in 0..self.arity as usize {
+            let ours = words::word_at(self.image, head + k);
+            let theirs = words::word_at(self.words, goal + k);
+            match self.compare(ours, theirs) {
+                Compared::Differ => return true,
+                Compared::Agree => {}
+                Compared::Unsure => return false,
+            }
+        }
+        false
+    }
+
+    // Whether the clause at a position is sure to fail.
+    #[tactic(auto, unfolding(crate::specs::Clash::fails_plainly))]
+    fn fails_plainly(self, position: u32) -> bool
+        requires { (self.slot < 65536) × (self.place < 1048576) × (self.arity < 65536) }
+        ensures { result ≡ fails_plainly self.entry.arity self.entry.image.now self.entry.words.now self.entry.array.now self.entry.cells.now self.entry.slot self.entry.child_base position self.entry.place }
+    {
+        let at = position as usize;
+        words::variables(words::word_at(self.image, at)) == 0 && self.clashes(at + 1)
+    }
+
+    // At most so many clauses from a position on, as long as each is sure to fail; for each the node's tried count rises. Answers how many, and the place behind them.
+    fn pass_over(self, nodes: &mut [u32], node: u32, start: u32, most: u32) -> Stretch
+        requires { (self.slot < 65536) × (self.place < 1048576) × (self.arity < 65536) × (most < 1024) × (start < 134217728) }
+        ensures { (passing nodes.new result.count ≡ pass_over self.entry.arity node self.entry.image.now self.entry.words.now self.entry.array.now self.entry.cells.now self.entry.slot self.entry.child_base self.entry.place most 0 nodes.old start) × (result.position ≡ clause_from self.entry.image.now start result.count) }
+    {
+        let mut position = start;
+        for count in 0..most {
+            if !self.fails_plainly(position) {
+                return Stretch { count, position };
+            }
+            memory::raise(nodes, node);
+            position += words::clause_length(words::word_at(self.image, position as usize));
+        }
+        Stretch {
+            count: most,
+            position,
+        }
     }
 }
 
@@ -152,51 +120,44 @@ fn blank(words: &[u32], start: usize, count: u32) -> bool
 
 // Passes over clauses of a live node's predicate from a position on, at most so many, if the next is sure to fail and the child's trail is still empty. Answers how many, and the place behind them.
 #[tactic(auto, unfolding(crate::specs::Passing::skipped, model::specs::Decoding::clause_from))]
-pub fn skip<'a>(
-    image: &'a [u32],
-    query: &'a [u32],
-    nodes: &mut [u32],
-    cells: &[u32],
-    trail: &[u32],
-    array: &[u32],
-    node: u32,
+pub fn skip(
+    search: Search<'_>,
+    view: &mut View<'_>,
+    call: Call,
     child: u32,
-    predicate: u32,
-    place: usize,
     position: u32,
     most: u32,
 ) -> Stretch
-    requires { (place < 1048576) × (position < 134217728) × (tried nodes.old node ≤ clause_count (predicate_word image.now predicate)) }
-    ensures { (passing nodes.new result.count ≡ skipped image.now query.now nodes.old cells.now trail.now array.now node child predicate place position most) × (result.position ≡ clause_from image.now position result.count) }
+    requires { (call.place < 1048576) × (position < 134217728) × (tried view.old.nodes.now call.node ≤ clause_count (predicate_word search.image.now call.predicate)) }
+    ensures did { (passing view.new.nodes.now result.count ≡ skipped search.entry.image.now search.entry.query.now view.old.nodes.now view.old.cells.now view.old.trail.now view.old.array.now call.node child call.predicate call.place position most) × (result.position ≡ clause_from search.entry.image.now position result.count) }
+    ensures kept { words_of view.new ≡ with_nodes (words_of view.old) view.new.nodes.now }
+    ensures lent { SameSlices view.old view.new }
 {
     let none = Stretch { count: 0, position };
     if most == 0 {
         return none;
     }
+    let node = call.node;
+    let nodes = &mut *view.nodes;
+    let array = &mut *view.array;
+    let cells = &mut *view.cells;
+    let trail = &mut *view.trail;
     let slot = memory::frame(nodes, node);
-    let words = goals::clause_words(image, query, nodes, slot);
-    let child_base = memory::base(nodes, node) + memory::own_variables(nodes, node);
-    let word = words::word_at(image, 1 + predicate as usize);
+    let word = words::word_at(search.image, 1 + call.predicate as usize);
     let arity = words::arity(word);
-    if !fails_plainly(
-        image, words, array, cells, slot, child_base, position, place, arity,
-    ) || !blank(trail, 32 * child as usize, 2 * arity)
-    {
-        return none;
-    }
-    let untried = words::clause_count(word) - memory::tried(nodes, node);
-    pass_over(
-        image,
-        words,
-        nodes,
+    let attempt = Attempt {
+        image: search.image,
+        words: search.clause_words(nodes, slot),
         array,
         cells,
         slot,
-        child_base,
-        position,
-        place,
+        child_base: memory::base(nodes, node) + memory::own_variables(nodes, node),
+        place: call.place,
         arity,
-        node,
-        most.min(untried),
-    )
+    };
+    if !attempt.fails_plainly(position) || !blank(trail, 32 * child as usize, 2 * arity) {
+        return none;
+    }
+    let untried = words::clause_count(word) - memory::tried(nodes, node);
+    attempt.pass_over(nodes, node, position, most.min(untried))
 }
