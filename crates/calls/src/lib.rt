@@ -7,6 +7,7 @@ ghost use Rattle.model.specs.Calls.{lengths_right, load_refusal, call_refusal, l
 
 use bindings::Tree;
 use goals::Search;
+use memory::View;
 use model::{MoveAnswer, Refusal, Refused, RunAnswer, StepAnswer, Verdict, Written};
 
 const WORKERS: u32 = 4;
@@ -111,16 +112,15 @@ pub fn step<'a>(
     call_refusal(image, query, nodes, cells, trail, arrays, workers, worker)?;
     let base = 2048 * worker as usize;
     let end = base + 2048;
-    let outcome = engine::step(
-        image,
-        query,
+    let mut view = View {
         nodes,
         cells,
         trail,
-        &mut arrays[base..end],
+        array: &mut arrays[base..end],
         workers,
-        worker,
-    );
+    };
+    let outcome = engine::step(Search { image, query }, &mut view, worker);
+    let workers = &mut *view.workers;
     Ok((outcome, words::word_at(workers, worker as usize)))
 }
 
@@ -142,17 +142,15 @@ pub fn run<'a>(
     call_refusal(image, query, nodes, cells, trail, arrays, workers, worker)?;
     let base = 2048 * worker as usize;
     let end = base + 2048;
-    let ended = engine::run(
-        image,
-        query,
+    let mut view = View {
         nodes,
         cells,
         trail,
-        &mut arrays[base..end],
+        array: &mut arrays[base..end],
         workers,
-        worker,
-        budget,
-    );
+    };
+    let ended = engine::run(Search { image, query }, &mut view, worker, budget);
+    let workers = &mut *view.workers;
     let slot = words::word_at(workers, worker as usize);
     Ok((ended.outcome, slot, ended.count))
 }

@@ -10,6 +10,8 @@ ghost use Rattle.desk_model.specs.Desk.{stop_of, advanced_to, advanced, stop_lin
 ghost use Rattle.listing.specs.Fits.{Fits};
 
 use desk_model::{Ending, Line, Opened, Stop};
+use goals::Search;
+use memory::View;
 use model::{Outcome, Refused};
 
 // Where worker 0 stopped, and the steps so far.
@@ -59,17 +61,14 @@ fn advance<'a>(
 {
     let left = budget(steps);
     let end: usize = 2048;
-    let ended = engine::run(
-        image,
-        query,
+    let mut view = View {
         nodes,
         cells,
         trail,
-        &mut arrays[..end],
+        array: &mut arrays[..end],
         workers,
-        0,
-        left,
-    );
+    };
+    let ended = engine::run(Search { image, query }, &mut view, 0, left);
     let outcome = ended.outcome;
     let count = ended.count;
     let stop = stop_of(outcome);

@@ -6,10 +6,13 @@ ghost use Rattle.std.specs.Prelude.{◌+◌, ◌≤◌, ◌<◌};
 ghost use Rattle.turns.specs.Hand.{AtHand, Begun};
 
 use engine::RunEnd;
+use goals::Search;
+use memory::View;
 use model::Outcome;
 use std::env::{Env, FillError};
 use std::rt::Files;
 use std::{fs, io, str};
+use turns::Hand;
 
 // The memory that a search works in.
 #[derive(Drop)]
@@ -23,7 +26,7 @@ struct Memory {
 
 // What a worker has at hand through a run, beside the memory.
 #[derive(Drop)]
-struct Hand {
+struct Tables {
     places: [u32; 128],
     clauses: [u32; 128],
     children: [u32; 64],
@@ -81,41 +84,40 @@ impl Memory {
         );
     }
 
-    fn begin(&self, hand: &mut Hand)
+    fn begin(&self, hand: &mut Tables)
         ensures { Begun self.now.nodes hand.new.places hand.new.clauses hand.new.children }
     {
-        engine::begin(
-            &self.nodes,
-            &mut hand.places,
-            &mut hand.clauses,
-            &mut hand.children,
-        );
+        let mut lent = Hand {
+            places: &mut hand.places,
+            clauses: &mut hand.clauses,
+            children: &mut hand.children,
+        };
+        engine::begin(&self.nodes, &mut lent);
     }
 
-    fn run<'a>(&mut self, hand: &mut Hand, image: &'a [u32], query: &'a [u32], left: u32) -> RunEnd
+    fn run<'a>(&mut self, hand: &mut Tables, image: &'a [u32], query: &'a [u32], left: u32) -> RunEnd
         requires { AtHand image.now query.now self.old.nodes hand.old.places hand.old.clauses hand.old.children }
         ensures { AtHand image.now query.now self.new.nodes hand.new.places hand.new.clauses hand.new.children }
     {
         let arrays = &mut self.arrays[..];
         let own: usize = 2048;
-        engine::run_on(
-            image,
-            query,
-            &mut self.nodes,
-            &mut self.cells,
-            &mut self.trail,
-            &mut arrays[..own],
-            &mut self.workers,
-            &mut hand.places,
-            &mut hand.clauses,
-            &mut hand.children,
-            0,
-            left,
-        )
+        let mut view = View {
+            nodes: &mut self.nodes,
+            cells: &mut self.cells,
+            trail: &mut self.trail,
+            array: &mut arrays[..own],
+            workers: &mut self.workers,
+        };
+        let mut lent = Hand {
+            places: &mut hand.places,
+            clauses: &mut hand.clauses,
+            children: &mut hand.children,
+        };
+        engine::run_on(Search { image, query }, &mut view, &mut lent, 0, left)
     }
 
     // Runs by worker 0 until one ends in anything but an answer, of 65,535 steps in all, as document 01's desk program takes. Answers how many it took.
-    fn steps<'a>(&mut self, hand: &mut Hand, image: &'a [u32], query: &'a [u32]) -> u32
+    fn steps<'a>(&mut self, hand: &mut Tables, image: &'a [u32], query: &'a [u32]) -> u32
         requires { AtHand image.now query.now self.old.nodes hand.old.places hand.old.clauses hand.old.children }
         ensures { result ≤ 65535 }
     {
@@ -137,7 +139,7 @@ impl Memory {
         ensures { result ≤ 65535 }
     {
         self.load(query);
-        let mut hand = Hand {
+        let mut hand = Tables {
             places: [0; 128],
             clauses: [0; 128],
             children: [0; 64],

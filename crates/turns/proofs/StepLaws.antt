@@ -1,10 +1,12 @@
 -- A step from the rule that its node takes. Document 01, "A step by worker w at node N, first rule that fits". Assumes nothing.
-use Rattle.std.proofs.Common.{◌≡◌, ◌∙◌, sym, ap, refl, Bool, true, false, cond, ◌&&◌, List, ℕ, ◌<◌, Option, Some, None, eqb, ltb, leb, get_or, arith, eq-eqb, lt-ltb, eqb-true, ltb-true}
+use Rattle.std.proofs.Common.{◌≡◌, ◌∙◌, sym, ap, subst, refl, Bool, true, false, cond, ◌&&◌, List, ℕ, ◌<◌, Option, Some, None, eqb, ltb, leb, get_or, arith, eq-eqb, lt-ltb, eqb-true, ltb-true}
 use Rattle.model.specs.Fields.{sequential, clause_count}
 use Rattle.model.specs.Memory.{has_goal, tried}
 use Rattle.model.specs.Image.{predicate_word}
 use Rattle.model.specs.Steps.{View, goal_of, predicate_of, live, has_child, another_there, lowest_free, dead_rule, live_rule, node_rule, step}
-use Rattle.turns.specs.Live.{live_goal}
+use Rattle.goals.specs.declared.Call.{Call}
+use Rattle.goals.specs.Calls.{IsCall}
+use Rattle.turns.specs.Live.{call_at, live_goal}
 
 module _ (image query nodes : List ℕ) (node : ℕ) where
   pub live-untried : has_goal nodes node ≡ 1 → tried nodes node < clause_count (predicate_word image (predicate_of image query nodes node)) → live image query nodes node ≡ true
@@ -27,21 +29,20 @@ module _ (image query nodes : List ℕ) (node : ℕ) where
   unfolding live_goal
   live_goal-dead e = go (live image query nodes node) refl e
     where
-      go : (b : Bool) → live image query nodes node ≡ b → cond {A = Option (ℕ × ℕ)} b (Some (predicate_of image query nodes node, goal_of image query nodes node)) None ≡ None → live image query nodes node ≡ false
+      go : (b : Bool) → live image query nodes node ≡ b → cond {A = Option Call} b (Some (call_at image query nodes node)) None ≡ None → live image query nodes node ≡ false
       go true q r = cc
       go false q r = q
 
-  pub live_goal-live : (predicate place : ℕ) → live_goal image query nodes node ≡ Some (predicate, place)
-      → (live image query nodes node ≡ true) × (predicate ≡ predicate_of image query nodes node) × (place ≡ goal_of image query nodes node)
+  pub live_goal-live : (call : Call) → live_goal image query nodes node ≡ Some call → (call.node ≡ node) × (live image query nodes call.node ≡ true) × IsCall image query nodes call
   unfolding live_goal
-  live_goal-live predicate place e = go (live image query nodes node) refl e
+  live_goal-live call e = go (live image query nodes node) refl e
     where
-      go : (b : Bool) → live image query nodes node ≡ b → cond {A = Option (ℕ × ℕ)} b (Some (predicate_of image query nodes node, goal_of image query nodes node)) None ≡ Some (predicate, place)
-          → (live image query nodes node ≡ true) × (predicate ≡ predicate_of image query nodes node) × (place ≡ goal_of image query nodes node)
+      go : (b : Bool) → live image query nodes node ≡ b → cond {A = Option Call} b (Some (call_at image query nodes node)) None ≡ Some call
+          → (call.node ≡ node) × (live image query nodes call.node ≡ true) × IsCall image query nodes call
       go true q r =
-          let e : ◌≡◌ {A = ℕ × ℕ} (predicate, place) (predicate_of image query nodes node, goal_of image query nodes node) = cc in
-          (q, ap (λ (p : ℕ × ℕ). p.0) e, ap (λ (p : ℕ × ℕ). p.1) e)
-      go false q r = (cc, cc, cc)
+          let is : call_at image query nodes node ≡ call = cc in
+          subst (λ (k : Call). (k.node ≡ node) × (live image query nodes k.node ≡ true) × IsCall image query nodes k) is (refl, q, (refl, refl))
+      go false q r = let z : ◌≡◌ {A = ℕ} 0 1 = cc in absurd (omega arith)
 
 module _ (image query : List ℕ) (v : View) (worker node : ℕ) (is : node ≡ get_or v.workers worker 0) where
   pub step-dead : live image query v.nodes node ≡ false

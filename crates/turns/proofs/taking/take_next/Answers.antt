@@ -5,7 +5,10 @@ use Rattle.model.specs.Memory.{frame, tried}
 use Rattle.model.specs.Goals.{clause_words}
 use Rattle.model.specs.Fields.{arity}
 use Rattle.model.specs.Image.{predicate_word}
-use Rattle.model.specs.Steps.{view, goal_of, predicate_of, take_clause}
+use Rattle.goals.specs.Calls.{IsCall}
+use Rattle.memory.specs.Views.{words_of}
+use Rattle.model.specs.Steps.{View, view, take_clause}
+use Rattle.turns.specs.Progress.{Tries}
 use Rattle.memory.proofs.FieldBounds.{tried-lt, clause_count-lt, clause_length-lt}
 use Rattle.children.specs.Children.{Counted}
 use Rattle.children.proofs.ChildLaws.{same-counted}
@@ -17,76 +20,84 @@ use Rattle.turns.proofs.taking.take_next.Goals as goal
 pub clause_place-position-requires : goal.clause_place-position-requires
 clause_place-position-requires c = let a = c.args in
     let p = c.requires in
-    (p.tables_true.0, omega (arith, p.live_node.2, predicate_of-lt a.image.now a.query.now a.nodes.now a.node), omega (arith, c.tried-tried.ensures, tried-lt a.nodes.now a.node))
+    (p.tables_true.1, omega (arith, p.live_node.2.0, predicate_of-lt a.search.image.now a.search.query.now a.view.now.nodes.now a.call.node), omega (arith, c.tried-tried.ensures, tried-lt a.view.now.nodes.now a.call.node))
 
 pub skip-stretch-requires : goal.skip-stretch-requires
 skip-stretch-requires c = let a = c.args in
     let p = c.requires in
-    let at = c.clause_place-position.ensures ∙ ap (clause_at a.image.now a.predicate) c.tried-tried.ensures in
-    (place-lt a.image.now a.query.now a.nodes.now a.workers.now a.worker a.node a.child a.predicate a.place p.live_node.0 p.live_node.1 p.live_node.2 p.live_node.3, position-lt a.image.now a.query.now a.nodes.now a.workers.now a.worker a.node a.child a.predicate a.place p.live_node.0 p.live_node.1 p.live_node.2 p.live_node.3 c.clause_place-position.result at, omega (arith, untried a.image.now a.query.now a.nodes.now a.workers.now a.worker a.node a.child a.predicate a.place p.live_node.0 p.live_node.1 p.live_node.2 p.live_node.3))
+    let at = c.clause_place-position.ensures ∙ ap (clause_at a.search.image.now a.call.predicate) c.tried-tried.ensures in
+    (place-lt a.search.image.now a.search.query.now a.view.now.nodes.now a.view.now.workers.now a.worker a.call.node a.child a.call.predicate a.call.place p.live_node.0 p.live_node.1 p.live_node.2.0 p.live_node.2.1, position-lt a.search.image.now a.search.query.now a.view.now.nodes.now a.view.now.workers.now a.worker a.call.node a.child a.call.predicate a.call.place p.live_node.0 p.live_node.1 p.live_node.2.0 p.live_node.2.1 c.clause_place-position.result at, omega (arith, untried a.search.image.now a.search.query.now a.view.now.nodes.now a.view.now.workers.now a.worker a.call.node a.child a.call.predicate a.call.place p.live_node.0 p.live_node.1 p.live_node.2.0 p.live_node.2.1))
 
 pub overflow_add-tried : goal.overflow_add-tried
 overflow_add-tried c = let a = c.args in
     let p = c.requires in
-    let more = untried a.image.now a.query.now a.nodes.now a.workers.now a.worker a.node a.child a.predicate a.place p.live_node.0 p.live_node.1 p.live_node.2 p.live_node.3 in
-    let kept = skip-keeps a.image.now a.query.now a.nodes.now a.cells.now a.trail.now a.array.now a.node a.child a.predicate a.place c.clause_place-position.result c.allowed.result c.skip-stretch.new.nodes c.skip-stretch.result.count c.skip-stretch.ensures.0 in
-    omega (arith, kept.1, more, c.tried-tried.ensures, clause_count-lt (predicate_word a.image.now a.predicate))
+    let more = untried a.search.image.now a.search.query.now a.view.now.nodes.now a.view.now.workers.now a.worker a.call.node a.child a.call.predicate a.call.place p.live_node.0 p.live_node.1 p.live_node.2.0 p.live_node.2.1 in
+    let kept = skip-keeps a.search.image.now a.search.query.now a.view.now.nodes.now a.view.now.cells.now a.view.now.trail.now a.view.now.array.now a.call.node a.child a.call.predicate a.call.place c.clause_place-position.result c.allowed.result c.skip-stretch.new.view.nodes.now c.skip-stretch.result.count c.skip-stretch.ensures.did.0 in
+    omega (arith, kept.1, more, c.tried-tried.ensures, clause_count-lt (predicate_word a.search.image.now a.call.predicate))
 
 pub keep_clause-requires : goal.keep_clause-requires
 keep_clause-requires c = let a = c.args in
     let p = c.requires in
-    let more = untried a.image.now a.query.now a.nodes.now a.workers.now a.worker a.node a.child a.predicate a.place p.live_node.0 p.live_node.1 p.live_node.2 p.live_node.3 in
-    let kept = skip-keeps a.image.now a.query.now a.nodes.now a.cells.now a.trail.now a.array.now a.node a.child a.predicate a.place c.clause_place-position.result c.allowed.result c.skip-stretch.new.nodes c.skip-stretch.result.count c.skip-stretch.ensures.0 in
-    let next = c.skip-stretch.ensures.1 ∙ ap (λ (q : ℕ). clause_from a.image.now q c.skip-stretch.result.count) c.clause_place-position.ensures ∙ clause_at-add a.image.now a.predicate c.tried-tried.result c.skip-stretch.result.count in
-    (p.tables_true.0, omega (arith, p.live_node.2, predicate_of-lt a.image.now a.query.now a.nodes.now a.node), omega (arith, kept.1, more, c.tried-tried.ensures, clause_count-lt (predicate_word a.image.now a.predicate)), next)
+    let more = untried a.search.image.now a.search.query.now a.view.now.nodes.now a.view.now.workers.now a.worker a.call.node a.child a.call.predicate a.call.place p.live_node.0 p.live_node.1 p.live_node.2.0 p.live_node.2.1 in
+    let kept = skip-keeps a.search.image.now a.search.query.now a.view.now.nodes.now a.view.now.cells.now a.view.now.trail.now a.view.now.array.now a.call.node a.child a.call.predicate a.call.place c.clause_place-position.result c.allowed.result c.skip-stretch.new.view.nodes.now c.skip-stretch.result.count c.skip-stretch.ensures.did.0 in
+    let next = c.skip-stretch.ensures.did.1 ∙ ap (λ (q : ℕ). clause_from a.search.image.now q c.skip-stretch.result.count) c.clause_place-position.ensures ∙ clause_at-add a.search.image.now a.call.predicate c.tried-tried.result c.skip-stretch.result.count in
+    (p.tables_true.1, omega (arith, p.live_node.2.0, predicate_of-lt a.search.image.now a.search.query.now a.view.now.nodes.now a.call.node), omega (arith, kept.1, more, c.tried-tried.ensures, clause_count-lt (predicate_word a.search.image.now a.call.predicate)), next)
 
-pub returns-then-passed-gt0 : goal.returns-then-passed-gt0
-returns-then-passed-gt0 c = let a = c.args in
+pub returns-then-passed-gt0-clause-did : goal.returns-then-passed-gt0-clause-did
+returns-then-passed-gt0-clause-did c = let a = c.args in
     let p = c.requires in
-    let at = c.clause_place-position.ensures ∙ ap (clause_at a.image.now a.predicate) c.tried-tried.ensures in
-    let more = untried a.image.now a.query.now a.nodes.now a.workers.now a.worker a.node a.child a.predicate a.place p.live_node.0 p.live_node.1 p.live_node.2 p.live_node.3 in
-    let aim = aimed a.image.now a.query.now a.nodes.now a.workers.now a.worker a.node a.child a.predicate a.place p.live_node.0 p.live_node.1 p.live_node.2 p.live_node.3 p.free_child.0 p.free_child.1 p.free_child.2 in
-    let kept = skip-keeps a.image.now a.query.now a.nodes.now a.cells.now a.trail.now a.array.now a.node a.child a.predicate a.place c.clause_place-position.result c.allowed.result c.skip-stretch.new.nodes c.skip-stretch.result.count c.skip-stretch.ensures.0 in
-    let t = skip-tries a.image.now a.query.now a.nodes.now a.cells.now a.trail.now a.array.now a.workers.now a.worker a.node a.child a.predicate a.place c.clause_place-position.result c.allowed.result aim (omega (arith, more)) at c.skip-stretch.new.nodes c.skip-stretch.result.count c.skip-stretch.ensures.0 in
-    ((c.if-passed-gt0.true, omega (arith, t.0, c.allowed.ensures), t.1), c.keep_clause.ensures, same-counted a.nodes.now c.skip-stretch.new.nodes a.children.now kept.0 p.tables_true.1)
+    let at = c.clause_place-position.ensures ∙ ap (clause_at a.search.image.now a.call.predicate) c.tried-tried.ensures in
+    let more = untried a.search.image.now a.search.query.now a.view.now.nodes.now a.view.now.workers.now a.worker a.call.node a.child a.call.predicate a.call.place p.live_node.0 p.live_node.1 p.live_node.2.0 p.live_node.2.1 in
+    let aim = aimed a.search.image.now a.search.query.now a.view.now.nodes.now a.view.now.workers.now a.worker a.call.node a.child a.call.predicate a.call.place p.live_node.0 p.live_node.1 p.live_node.2.0 p.live_node.2.1 p.free_child.0 p.free_child.1 p.free_child.2 in
+    let kept = skip-keeps a.search.image.now a.search.query.now a.view.now.nodes.now a.view.now.cells.now a.view.now.trail.now a.view.now.array.now a.call.node a.child a.call.predicate a.call.place c.clause_place-position.result c.allowed.result c.skip-stretch.new.view.nodes.now c.skip-stretch.result.count c.skip-stretch.ensures.did.0 in
+    let t = skip-tries a.search.image.now a.search.query.now a.view.now.nodes.now a.view.now.cells.now a.view.now.trail.now a.view.now.array.now a.view.now.workers.now a.worker a.call.node a.child a.call.predicate a.call.place c.clause_place-position.result c.allowed.result aim (omega (arith, more)) at c.skip-stretch.new.view.nodes.now c.skip-stretch.result.count c.skip-stretch.ensures.did.0 in
+    (c.if-passed-gt0.true, omega (arith, t.0, c.allowed.ensures), subst (λ (v : View). Tries c.skip-stretch.result.count a.search.image.now a.search.query.now a.worker (words_of a.view.now) v) (sym c.skip-stretch.ensures.kept) t.1)
+
+pub returns-then-passed-gt0-clause-tables_true : goal.returns-then-passed-gt0-clause-tables_true
+returns-then-passed-gt0-clause-tables_true c = let a = c.args in
+    let p = c.requires in
+    let kept = skip-keeps a.search.image.now a.search.query.now a.view.now.nodes.now a.view.now.cells.now a.view.now.trail.now a.view.now.array.now a.call.node a.child a.call.predicate a.call.place c.clause_place-position.result c.allowed.result c.skip-stretch.new.view.nodes.now c.skip-stretch.result.count c.skip-stretch.ensures.did.0 in
+    (p.tables_true.0, c.keep_clause.ensures, same-counted a.view.now.nodes.now c.skip-stretch.new.view.nodes.now a.hand.now.children.now kept.0 p.tables_true.2)
 
 pub overflow_add-next : goal.overflow_add-next
 overflow_add-next c = let a = c.args in
     let p = c.requires in
-    let at = c.clause_place-position.ensures ∙ ap (clause_at a.image.now a.predicate) c.tried-tried.ensures in
-    omega (arith, position-lt a.image.now a.query.now a.nodes.now a.workers.now a.worker a.node a.child a.predicate a.place p.live_node.0 p.live_node.1 p.live_node.2 p.live_node.3 c.clause_place-position.result at, c.clause_length.ensures, clause_length-lt c.word_at.result)
+    let at = c.clause_place-position.ensures ∙ ap (clause_at a.search.image.now a.call.predicate) c.tried-tried.ensures in
+    omega (arith, position-lt a.search.image.now a.search.query.now a.view.now.nodes.now a.view.now.workers.now a.worker a.call.node a.child a.call.predicate a.call.place p.live_node.0 p.live_node.1 p.live_node.2.0 p.live_node.2.1 c.clause_place-position.result at, c.clause_length.ensures, clause_length-lt c.word_at.result)
 
 pub overflow_add-tried-2 : goal.overflow_add-tried-2
 overflow_add-tried-2 c = let a = c.args in
     let p = c.requires in
-    omega (arith, c.tried-tried.ensures, tried-lt a.nodes.now a.node)
+    omega (arith, c.tried-tried.ensures, tried-lt a.view.now.nodes.now a.call.node)
 
 pub keep_clause-requires-2 : goal.keep_clause-requires-2
 keep_clause-requires-2 c = let a = c.args in
     let p = c.requires in
-    let more = untried a.image.now a.query.now a.nodes.now a.workers.now a.worker a.node a.child a.predicate a.place p.live_node.0 p.live_node.1 p.live_node.2 p.live_node.3 in
-    (p.tables_true.0, omega (arith, p.live_node.2, predicate_of-lt a.image.now a.query.now a.nodes.now a.node), omega (arith, more, c.tried-tried.ensures, clause_count-lt (predicate_word a.image.now a.predicate)), clause_at-on a.image.now a.predicate c.tried-tried.result _ _ _ c.clause_place-position.ensures c.word_at.ensures c.clause_length.ensures)
+    let more = untried a.search.image.now a.search.query.now a.view.now.nodes.now a.view.now.workers.now a.worker a.call.node a.child a.call.predicate a.call.place p.live_node.0 p.live_node.1 p.live_node.2.0 p.live_node.2.1 in
+    (p.tables_true.1, omega (arith, p.live_node.2.0, predicate_of-lt a.search.image.now a.search.query.now a.view.now.nodes.now a.call.node), omega (arith, more, c.tried-tried.ensures, clause_count-lt (predicate_word a.search.image.now a.call.predicate)), clause_at-on a.search.image.now a.call.predicate c.tried-tried.result _ _ _ c.clause_place-position.ensures c.word_at.ensures c.clause_length.ensures)
 
 pub take_one-requires : goal.take_one-requires
 take_one-requires c = let a = c.args in
     let p = c.requires in
-    let at = c.clause_place-position.ensures ∙ ap (clause_at a.image.now a.predicate) c.tried-tried.ensures in
-    let more = untried a.image.now a.query.now a.nodes.now a.workers.now a.worker a.node a.child a.predicate a.place p.live_node.0 p.live_node.1 p.live_node.2 p.live_node.3 in
-    let aim = aimed a.image.now a.query.now a.nodes.now a.workers.now a.worker a.node a.child a.predicate a.place p.live_node.0 p.live_node.1 p.live_node.2 p.live_node.3 p.free_child.0 p.free_child.1 p.free_child.2 in
-    let same = skip-none a.image.now a.query.now a.nodes.now a.cells.now a.trail.now a.array.now a.workers.now a.worker a.node a.child a.predicate a.place c.clause_place-position.result c.allowed.result aim (omega (arith, more)) at c.skip-stretch.new.nodes c.skip-stretch.result.count c.if-passed-gt0.false c.skip-stretch.ensures.0 in
-    let kept = subst (λ (n : List ℕ). ((a.child < 64) × (a.predicate ≡ predicate_of a.image.now a.query.now n a.node) × (a.place ≡ goal_of a.image.now a.query.now n a.node) × (c.clause_place-position.result ≡ clause_at a.image.now a.predicate (tried n a.node))) × Counted n a.children.now)
-    same ((p.free_child.2, p.live_node.2, p.live_node.3, at), p.tables_true.1) in
+    let at = c.clause_place-position.ensures ∙ ap (clause_at a.search.image.now a.call.predicate) c.tried-tried.ensures in
+    let more = untried a.search.image.now a.search.query.now a.view.now.nodes.now a.view.now.workers.now a.worker a.call.node a.child a.call.predicate a.call.place p.live_node.0 p.live_node.1 p.live_node.2.0 p.live_node.2.1 in
+    let aim = aimed a.search.image.now a.search.query.now a.view.now.nodes.now a.view.now.workers.now a.worker a.call.node a.child a.call.predicate a.call.place p.live_node.0 p.live_node.1 p.live_node.2.0 p.live_node.2.1 p.free_child.0 p.free_child.1 p.free_child.2 in
+    let same = skip-none a.search.image.now a.search.query.now a.view.now.nodes.now a.view.now.cells.now a.view.now.trail.now a.view.now.array.now a.view.now.workers.now a.worker a.call.node a.child a.call.predicate a.call.place c.clause_place-position.result c.allowed.result aim (omega (arith, more)) at c.skip-stretch.new.view.nodes.now c.skip-stretch.result.count c.if-passed-gt0.false c.skip-stretch.ensures.did.0 in
+    let kept = subst (λ (n : List ℕ). ((a.child < 64) × IsCall a.search.image.now a.search.query.now n a.call × (c.clause_place-position.result ≡ clause_at a.search.image.now a.call.predicate (tried n a.call.node))) × Counted n a.hand.now.children.now)
+    same ((p.free_child.2, p.live_node.2, at), p.tables_true.2) in
     record { clause_found = kept.0; counted = kept.1 }
 
-pub returns : goal.returns
-returns c = let a = c.args in
+pub returns-clause-did : goal.returns-clause-did
+returns-clause-did c = let a = c.args in
     let p = c.requires in
-    let at = c.clause_place-position.ensures ∙ ap (clause_at a.image.now a.predicate) c.tried-tried.ensures in
-    let more = untried a.image.now a.query.now a.nodes.now a.workers.now a.worker a.node a.child a.predicate a.place p.live_node.0 p.live_node.1 p.live_node.2 p.live_node.3 in
-    let aim = aimed a.image.now a.query.now a.nodes.now a.workers.now a.worker a.node a.child a.predicate a.place p.live_node.0 p.live_node.1 p.live_node.2 p.live_node.3 p.free_child.0 p.free_child.1 p.free_child.2 in
-    let same = skip-none a.image.now a.query.now a.nodes.now a.cells.now a.trail.now a.array.now a.workers.now a.worker a.node a.child a.predicate a.place c.clause_place-position.result c.allowed.result aim (omega (arith, more)) at c.skip-stretch.new.nodes c.skip-stretch.result.count c.if-passed-gt0.false c.skip-stretch.ensures.0 in (
-      c.take_one.ensures.0 ∙ ap (λ (n : List ℕ). take_clause a.image.now a.query.now (view n a.cells.now a.trail.now a.array.now a.workers.now) a.worker a.node a.child) (sym same)
-          ∙ take_step a.image.now a.query.now a.workers.now (clause_words a.image.now a.query.now a.nodes.now (frame a.nodes.now a.node)) a.worker a.node a.child (frame a.nodes.now a.node) _ a.place (arity (predicate_word a.image.now a.predicate)) a.predicate a.cells.now a.trail.now a.array.now a.nodes.now aim more,
-      c.keep_clause-2.ensures,
-      c.take_one.ensures.1,
-    )
+    let at = c.clause_place-position.ensures ∙ ap (clause_at a.search.image.now a.call.predicate) c.tried-tried.ensures in
+    let more = untried a.search.image.now a.search.query.now a.view.now.nodes.now a.view.now.workers.now a.worker a.call.node a.child a.call.predicate a.call.place p.live_node.0 p.live_node.1 p.live_node.2.0 p.live_node.2.1 in
+    let aim = aimed a.search.image.now a.search.query.now a.view.now.nodes.now a.view.now.workers.now a.worker a.call.node a.child a.call.predicate a.call.place p.live_node.0 p.live_node.1 p.live_node.2.0 p.live_node.2.1 p.free_child.0 p.free_child.1 p.free_child.2 in
+    let same = skip-none a.search.image.now a.search.query.now a.view.now.nodes.now a.view.now.cells.now a.view.now.trail.now a.view.now.array.now a.view.now.workers.now a.worker a.call.node a.child a.call.predicate a.call.place c.clause_place-position.result c.allowed.result aim (omega (arith, more)) at c.skip-stretch.new.view.nodes.now c.skip-stretch.result.count c.if-passed-gt0.false c.skip-stretch.ensures.did.0 in
+    c.take_one.ensures.did
+    ∙ ap (λ (v : View). take_clause a.search.image.now a.search.query.now v a.worker a.call.node a.child)
+    (c.skip-stretch.ensures.kept ∙ ap (λ (n : List ℕ). view n a.view.now.cells.now a.view.now.trail.now a.view.now.array.now a.view.now.workers.now) (sym same))
+    ∙ take_step a.search.image.now a.search.query.now a.view.now.workers.now (clause_words a.search.image.now a.search.query.now a.view.now.nodes.now (frame a.view.now.nodes.now a.call.node)) a.worker a.call.node a.child (frame a.view.now.nodes.now a.call.node) _ a.call.place (arity (predicate_word a.search.image.now a.call.predicate)) a.call.predicate a.view.now.cells.now a.view.now.trail.now a.view.now.array.now a.view.now.nodes.now aim more
+
+pub returns-clause-tables_true : goal.returns-clause-tables_true
+returns-clause-tables_true c = (c.requires.tables_true.0, c.keep_clause-2.ensures, c.take_one.ensures.counted)
