@@ -1,6 +1,5 @@
 -- Rule 7 from the parts that its functions give: the head's unifying, a head that failed, a clause taken. Assumes nothing.
-use Rattle.std.proofs.Common.{◌≡◌, sym, ap, ap₂, ◌∙◌, List, [], Ok, Err, ℕ, ◌+◌, ◌*◌, ◌<◌, get_or, arith}
-use Rattle.model.specs.declared.Outcome.{Outcome}
+use Rattle.std.proofs.Common.{◌≡◌, sym, ap, ap₂, ◌∙◌, List, Ok, Err, ℕ, ◌+◌, ◌*◌, ◌<◌, get_or, arith}
 use Rattle.model.specs.declared.Outcome.TheVariants.{Tried}
 use Rattle.model.specs.Fields.{arity, variables, goal_count}
 use Rattle.model.specs.Image.{predicate_word}
@@ -31,39 +30,41 @@ head_store-count image query nodes array cells trail node child predicate positi
     omega (arith, h, n, arity-lt (predicate_word image predicate))
 
 -- a failed head: the count has risen, what was laid is cleared, what was bound is taken out and its entries cleared
-pub failure-from : (image nodes cells trail array : List ℕ) (node child position count own : ℕ) (risen blank bare undo : List ℕ)
+pub failure-from : (image nodes cells trail array workers : List ℕ) (node child position count own : ℕ) (risen blank bare undo : List ℕ)
     → own ≡ variables (get_or image position 0) → risen ≡ raised nodes node → blank ≡ cleared own (first_of child) cells → bare ≡ cleared (2 * count) (first_of child) trail
-    → undo ≡ undone count trail (first_of child) array → view risen blank bare undo [] ≡ failed image (view nodes cells trail array []) node child position count
+    → undo ≡ undone count trail (first_of child) array → view risen blank bare undo workers ≡ failed image (view nodes cells trail array workers) node child position count
 unfolding failed
-failure-from image nodes cells trail array node child position count own risen blank bare undo owns rises blanks bares undoes =
-    ap₂ (λ (n c : List ℕ). view n c bare undo []) rises (blanks ∙ ap (λ (k : ℕ). cleared k (first_of child) cells) owns)
-    ∙ ap₂ (λ (t a : List ℕ). view (raised nodes node) (cleared (variables (get_or image position 0)) (first_of child) cells) t a []) bares undoes
+failure-from image nodes cells trail array workers node child position count own risen blank bare undo owns rises blanks bares undoes =
+    ap₂ (λ (n c : List ℕ). view n c bare undo workers) rises (blanks ∙ ap (λ (k : ℕ). cleared k (first_of child) cells) owns)
+    ∙ ap₂ (λ (t a : List ℕ). view (raised nodes node) (cleared (variables (get_or image position 0)) (first_of child) cells) t a workers) bares undoes
 
 module _ (image query nodes cells trail array workers : List ℕ) (worker node child predicate position : ℕ)
     (calls : predicate ≡ predicate_of image query nodes node) (stands : position ≡ clause_at image predicate (tried nodes node))
-    (array_next cells_next trail_next : List ℕ) (found : Unified)
-    (headed : store array_next cells_next trail_next found ≡ head_store image query nodes array cells trail node child predicate position) where
-  takes : taken found image query (view nodes cells_next trail_next array_next workers) worker node child position ≡ take_clause image query (view nodes cells trail array workers) worker node child
+    (nodes_next cells_next trail_next array_next workers_next : List ℕ) (found : Unified)
+    (headed : store array_next cells_next trail_next found ≡ head_store image query nodes array cells trail node child predicate position)
+    (stay : nodes_next ≡ nodes) (wait : workers_next ≡ workers) where
+  takes : taken found image query (view nodes_next cells_next trail_next array_next workers_next) worker node child position ≡ take_clause image query (view nodes cells trail array workers) worker node child
   unfolding take_clause
   takes =
-      ap (λ (s : Store). taken s.unified image query (with_store (view nodes cells trail array workers) s) worker node child position) headed
+      ap₂ (λ (n w : List ℕ). taken found image query (view n cells_next trail_next array_next w) worker node child position) stay wait
+      ∙ ap (λ (s : Store). taken s.unified image query (with_store (view nodes cells trail array workers) s) worker node child position) headed
       ∙ ap₂ (λ (p at : ℕ).
       taken (head_store image query nodes array cells trail node child p at).unified image query (with_store (view nodes cells trail array workers) (head_store image query nodes array cells trail node child p at)) worker node child at)
       calls (stands ∙ ap (λ (p : ℕ). clause_at image p (tried nodes node)) calls)
 
-  pub take-failed : (count : ℕ) (n c t a : List ℕ) → found ≡ Err (clash count)
-      → view n c t a [] ≡ failed image (view nodes cells_next trail_next array_next []) node child position count
-      → stepped Tried (view n c t a workers) ≡ take_clause image query (view nodes cells trail array workers) worker node child
-  unfolding taken failed
-  take-failed count n c t a is e =
-      ap (λ (v : View). stepped Tried (view v.nodes v.cells v.trail v.array workers)) e
-      ∙ ap (λ (u : Unified). taken u image query (view nodes cells_next trail_next array_next workers) worker node child position) (sym is) ∙ takes
+  pub take-failed : (count : ℕ) (after : View) → found ≡ Err (clash count)
+      → after ≡ failed image (view nodes_next cells_next trail_next array_next workers_next) node child position count
+      → stepped Tried after ≡ take_clause image query (view nodes cells trail array workers) worker node child
+  unfolding taken
+  take-failed count after is e =
+      ap (stepped Tried) e
+      ∙ ap (λ (u : Unified). taken u image query (view nodes_next cells_next trail_next array_next workers_next) worker node child position) (sym is) ∙ takes
 
-  pub take-succeeded : (count : ℕ) (n w : List ℕ) (outcome : Outcome) → found ≡ Ok count
-      → stepped outcome (view n [] [] [] w)
-      ≡ succeeded image (view nodes [] [] [] workers) worker node child position count (child_goal image query nodes child (goal_count (get_or image position 0)) (frame nodes node) (goal_index nodes node))
-      → stepped outcome (view n cells_next trail_next array_next w) ≡ take_clause image query (view nodes cells trail array workers) worker node child
-  unfolding taken succeeded
-  take-succeeded count n w outcome is e =
-      ap (λ (s : Stepped). stepped s.outcome (view s.after.nodes cells_next trail_next array_next s.after.workers)) e
-      ∙ ap (λ (u : Unified). taken u image query (view nodes cells_next trail_next array_next workers) worker node child position) (sym is) ∙ takes
+  pub take-succeeded : (count : ℕ) (after : Stepped) → found ≡ Ok count
+      → after
+      ≡ succeeded image (view nodes_next cells_next trail_next array_next workers_next) worker node child position count
+      (child_goal image query nodes_next child (goal_count (get_or image position 0)) (frame nodes_next node) (goal_index nodes_next node))
+      → after ≡ take_clause image query (view nodes cells trail array workers) worker node child
+  unfolding taken
+  take-succeeded count after is e =
+      e ∙ ap (λ (u : Unified). taken u image query (view nodes_next cells_next trail_next array_next workers_next) worker node child position) (sym is) ∙ takes

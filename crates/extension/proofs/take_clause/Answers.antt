@@ -5,18 +5,23 @@ use Rattle.extension.proofs.take_clause.Goals as goal
 
 pub fail-requires : goal.fail-requires
 fail-requires c = let a = c.args in
-    let n = head_store-count a.image.now a.query.now a.nodes.now a.array.now a.cells.now a.trail.now a.node a.child a.predicate a.position _ _ _ c.try_head.result c.try_head.ensures in
+    let v = a.view.now in
+    let n = head_store-count a.search.image.now a.search.query.now v.nodes.now v.array.now v.cells.now v.trail.now a.call.node a.child a.call.predicate a.position _ _ _ c.try_head.result c.try_head.ensures.did in
     let m : c.in-Err.field-0.0 < 16 = rw c.in-Err.is at n in
     omega arith
 
-pub returns-in-Err : goal.returns-in-Err
-returns-in-Err c = let a = c.args in
-    take-failed a.image.now a.query.now a.nodes.now a.cells.now a.trail.now a.array.now a.workers.now a.worker a.node a.child a.predicate a.position
-    c.requires.1 c.requires.3 _ _ _ c.try_head.result c.try_head.ensures
-    c.in-Err.field-0.0 _ _ _ _ c.in-Err.is c.fail.ensures
+pub returns-in-Err-clause-did : goal.returns-in-Err-clause-did
+returns-in-Err-clause-did c = let a = c.args in
+    let v = a.view.now in
+    let h = c.try_head.ensures in
+    take-failed a.search.image.now a.search.query.now v.nodes.now v.cells.now v.trail.now v.array.now v.workers.now a.worker a.call.node a.child a.call.predicate a.position
+    c.requires.1.0 c.requires.2 _ _ _ _ _ c.try_head.result h.did h.rest.0 h.rest.1
+    c.in-Err.field-0.0 _ c.in-Err.is c.fail.ensures.did
 
-pub returns-in-Ok : goal.returns-in-Ok
-returns-in-Ok c = let a = c.args in
-    take-succeeded a.image.now a.query.now a.nodes.now a.cells.now a.trail.now a.array.now a.workers.now a.worker a.node a.child a.predicate a.position
-    c.requires.1 c.requires.3 _ _ _ c.try_head.result c.try_head.ensures
-    c.in-Ok.count _ _ c.succeed.result c.in-Ok.is c.succeed.ensures
+pub returns-in-Ok-clause-did : goal.returns-in-Ok-clause-did
+returns-in-Ok-clause-did c = let a = c.args in
+    let v = a.view.now in
+    let h = c.try_head.ensures in
+    take-succeeded a.search.image.now a.search.query.now v.nodes.now v.cells.now v.trail.now v.array.now v.workers.now a.worker a.call.node a.child a.call.predicate a.position
+    c.requires.1.0 c.requires.2 _ _ _ _ _ c.try_head.result h.did h.rest.0 h.rest.1
+    c.in-Ok.count _ c.in-Ok.is c.succeed.ensures.did

@@ -1,11 +1,11 @@
--- `extension::try_head` meets its contract: the fields' bounds, and how far a goal can stand. Assumes nothing.
+-- `extension::unify` meets its contract: the fields' bounds, and how far a goal can stand. Assumes nothing.
 use Rattle.std.proofs.Common.{arith}
 use Rattle.goals.proofs.PlaceLaws.{goal_of-lt}
 use Rattle.memory.proofs.FieldBounds.{arity-lt, variables-lt, own_variables-lt, base-lt, frame-lt}
-use Rattle.extension.proofs.try_head.Goals as goal
+use Rattle.extension.proofs.unify.Goals as goal
 
-pub overflow_add-child_base : goal.overflow_add-child_base
-overflow_add-child_base c = omega (arith, base-lt, own_variables-lt)
+pub overflow_add-base : goal.overflow_add-base
+overflow_add-base c = omega (arith, base-lt, own_variables-lt)
 
 pub lay-requires : goal.lay-requires
 lay-requires c = omega (arith, base-lt, own_variables-lt, variables-lt)
