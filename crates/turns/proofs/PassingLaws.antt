@@ -100,9 +100,9 @@ module _ (image query workers words : List ℕ) (worker node child slot child_ba
         ∙ head-from image query nodes array cells trail node child predicate position slot place (base nodes node) (own_variables nodes node) count 0 words cells
         aim.frames aim.holds aim.placed refl refl ground.0 aim.counts refl in
         let failure =
-        failure-from image nodes cells undo.2 undo.1 node child position undo.0 0 (raised nodes node) cells trail array ground.0 refl refl (sym undo.5) (sym undo.4) in
-        let taken = take-failed image query nodes cells trail array workers worker node child predicate position aim.calls at undo.1 cells undo.2 (Err (clash undo.0)) headed undo.0
-        (raised nodes node) cells trail array refl failure in
+        failure-from image nodes cells undo.2 undo.1 workers node child position undo.0 0 (raised nodes node) cells trail array ground.0 refl refl (sym undo.5) (sym undo.4) in
+        let taken = take-failed image query nodes cells trail array workers worker node child predicate position aim.calls at nodes cells undo.2 undo.1 workers (Err (clash undo.0)) headed refl refl undo.0
+        (view (raised nodes node) cells trail array workers) refl failure in
         taken ∙ take_step cells trail array nodes aim untried
 
     -- from node words, by at most so many steps that each say Tried, to those after passing over

@@ -3,7 +3,4 @@ use Rattle.turns.proofs.HandLaws.{begun-at-hand}
 use Rattle.engine.proofs.run.Goals as goal
 
 pub run_on-requires : goal.run_on-requires
-run_on-requires c = let a = c.args in begun-at-hand a.image.now a.query.now a.nodes.now c.begin.new.places c.begin.new.clauses c.begin.new.children c.begin.ensures
-
-pub returns : goal.returns
-returns c = c.run_on.ensures.0
+run_on-requires c = let a = c.args in begun-at-hand a.search.image.now a.search.query.now a.view.now.nodes.now _ _ _ c.begin.ensures.did

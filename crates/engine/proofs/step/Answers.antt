@@ -1,17 +1,17 @@
 -- `engine::step` meets its contract. Assumes nothing.
 use Rattle.std.proofs.Common.{arith}
-use Rattle.model.specs.Steps.{view}
+use Rattle.memory.specs.Views.{words_of}
 use Rattle.engine.proofs.RunLaws.{progress-one, progress-did}
 use Rattle.turns.proofs.HandLaws.{begun-at-hand}
 use Rattle.engine.proofs.step.Goals as goal
 
 pub advance-requires : goal.advance-requires
-advance-requires c = let a = c.args in (omega arith, begun-at-hand a.image.now a.query.now a.nodes.now c.begin.new.places c.begin.new.clauses c.begin.new.children c.begin.ensures)
+advance-requires c = let a = c.args in (omega arith, begun-at-hand a.search.image.now a.search.query.now a.view.now.nodes.now _ _ _ c.begin.ensures.did)
 
-pub returns-in-Passed : goal.returns-in-Passed
-returns-in-Passed c = let a = c.args in
-    progress-one a.image.now a.query.now a.worker (view a.nodes.now a.cells.now a.trail.now a.array.now a.workers.now) _ c.advance.result c.in-Passed.field-0 c.in-Passed.is c.advance.ensures.0
+pub returns-in-Passed-clause-did : goal.returns-in-Passed-clause-did
+returns-in-Passed-clause-did c = let a = c.args in
+    progress-one a.search.image.now a.search.query.now a.worker (words_of a.view.now) _ c.advance.result c.in-Passed.field-0 c.in-Passed.is c.advance.ensures.did
 
-pub returns-in-Did : goal.returns-in-Did
-returns-in-Did c = let a = c.args in
-    progress-did a.image.now a.query.now a.worker (view a.nodes.now a.cells.now a.trail.now a.array.now a.workers.now) _ c.advance.result 1 c.in-Did.outcome c.in-Did.is c.advance.ensures.0
+pub returns-in-Did-clause-did : goal.returns-in-Did-clause-did
+returns-in-Did-clause-did c = let a = c.args in
+    progress-did a.search.image.now a.search.query.now a.worker (words_of a.view.now) _ c.advance.result 1 c.in-Did.outcome c.in-Did.is c.advance.ensures.did

@@ -9,7 +9,7 @@ use Rattle.turns.proofs.live.live_advance.Goals as goal
 
 -- what `waits` answers is said of the predicate's own word
 waits-is : (c : After-waits) → c.waits.result ≡ (eqb (sequential (predicate_word c.args.search.image.now c.args.call.predicate)) 1 && has_child c.args.view.now.nodes.now c.args.call.node)
-waits-is c = c.waits.ensures ∙ ap (λ (word : ℕ). eqb (sequential word) 1 && has_child c.args.view.now.nodes.now c.args.call.node) c.word_at.ensures
+waits-is c = c.waits.ensures ∙ ap (λ (word : ℕ). eqb (sequential word) 1 && has_child c.args.view.now.nodes.now c.args.call.node) c.word_at-word.ensures
 
 pub returns-then-waits-clause-did : goal.returns-then-waits-clause-did
 returns-then-waits-clause-did c = let a = c.args in
