@@ -26,118 +26,81 @@ pub struct Stretch {
     pub position: u32,
 }
 
-#[tactic(auto, unfolding(crate::specs::Clash::compare, crate::specs::Clash::compared_with))]
-fn compare(
-    array: &[u32],
-    cells: &[u32],
-    child_base: u32,
-    slot: u32,
-    head: u32,
-    goal: u32,
-) -> Compared
-    requires { slot < 65536 }
-    ensures { result ≡ compare child_base array.now cells.now slot head goal }
-{
-    if words::op(head) == 1 {
-        return Compared::Unsure;
-    }
-    match terms::argument_of(array, cells, slot, goal) {
-        Found::Constant(theirs) if words::constant(head) == theirs => Compared::Agree,
-        Found::Constant(_) => Compared::Differ,
-        Found::Unbound(number, _) if number.0 < child_base => Compared::Agree,
-        Found::Unbound(_, _) => Compared::Unsure,
-    }
-}
-
-// Whether so many arguments of a head and of a goal differ in a constant.
-fn clashes(
-    image: &[u32],
-    words: &[u32],
-    array: &[u32],
-    cells: &[u32],
+// A goal that is tried against heads of its predicate: the image, and the words, the place and the arity of the goal, in what slot's clause it stands, and what the worker sees: its array, the cells, and the first of the child's variables.
+#[derive(Clone, Copy)]
+struct Attempt<'a> {
+    image: &'a [u32],
+    words: &'a [u32],
+    array: &'a [u32],
+    cells: &'a [u32],
     slot: u32,
     child_base: u32,
-    head: usize,
-    goal: usize,
-    arity: u32,
-) -> bool
-    requires { (slot < 65536) × (head < 1099511627776) × (goal < 1099511627776) × (arity < 65536) }
-    ensures { result ≡ clashes arity image.now words.now array.now cells.now slot child_base head goal }
-{
-    for k in 0..arity as usize {
-        let ours = words::word_at(image, head + k);
-        let theirs = words::word_at(words, goal + k);
-        match compare(array, cells, child_base, slot, ours, theirs) {
-            Compared::Differ => return true,
-            Compared::Agree => {}
-            Compared::Unsure => return false,
-        }
-    }
-    false
-}
-
-// Whether the clause at a position is sure to fail.
-#[tactic(auto, unfolding(crate::specs::Clash::fails_plainly))]
-fn fails_plainly(
-    image: &[u32],
-    words: &[u32],
-    array: &[u32],
-    cells: &[u32],
-    slot: u32,
-    child_base: u32,
-    position: u32,
     place: usize,
     arity: u32,
-) -> bool
-    requires { (slot < 65536) × (place < 1048576) × (arity < 65536) }
-    ensures { result ≡ fails_plainly arity image.now words.now array.now cells.now slot child_base position place }
-{
-    let at = position as usize;
-    words::variables(words::word_at(image, at)) == 0
-        && clashes(
-            image,
-            words,
-            array,
-            cells,
-            slot,
-            child_base,
-            at + 1,
-            place + 1,
-            arity,
-        )
 }
 
-// At most so many clauses from a position on, as long as each is sure to fail; for each the node's tried count rises. Answers how many, and the place behind them.
-fn pass_over(
-    image: &[u32],
-    words: &[u32],
-    nodes: &mut [u32],
-    array: &[u32],
-    cells: &[u32],
-    slot: u32,
-    child_base: u32,
-    start: u32,
-    place: usize,
-    arity: u32,
-    node: u32,
-    most: u32,
-) -> Stretch
-    requires { (slot < 65536) × (place < 1048576) × (arity < 65536) × (most < 1024) × (start < 134217728) }
-    ensures { (passing nodes.new result.count ≡ pass_over arity node image.now words.now array.now cells.now slot child_base place most 0 nodes.old start) × (result.position ≡ clause_from image.now start result.count) }
-{
-    let mut position = start;
-    for count in 0..most {
-        if !fails_plainly(
-            image, words, array, cells, slot, child_base, position, place, arity,
-        ) {
-            return Stretch { count, position };
+impl<'a> Attempt<'a> {
+    #[tactic(auto, unfolding(crate::specs::Clash::compare, crate::specs::Clash::compared_with))]
+    fn compare(self, head: u32, goal: u32) -> Compared
+        requires { self.slot < 65536 }
+        ensures { result ≡ compare self.entry.child_base self.entry.array.now self.entry.cells.now self.entry.slot head goal }
+    {
+        if words::op(head) == 1 {
+            return Compared::Unsure;
         }
-        memory::raise(nodes, node);
-        position += words::clause_length(words::word_at(image, position as usize));
+        match terms::argument_of(self.array, self.cells, self.slot, goal) {
+            Found::Constant(theirs) if words::constant(head) == theirs => Compared::Agree,
+            Found::Constant(_) => Compared::Differ,
+            Found::Unbound(number, _) if number.0 < self.child_base => Compared::Agree,
+            Found::Unbound(_, _) => Compared::Unsure,
+        }
     }
-    Stretch {
-        count: most,
-        position,
+
+    // Whether a head's arguments, from a place on, and the goal's differ in a constant.
+    fn clashes(self, head: usize) -> bool
+        requires { (self.slot < 65536) × (head < 1099511627776) × (self.place < 1048576) × (self.arity < 65536) }
+        ensures { result ≡ clashes self.entry.arity self.entry.image.now self.entry.words.now self.entry.array.now self.entry.cells.now self.entry.slot self.entry.child_base head (self.entry.place + 1) }
+    {
+        let goal = self.place + 1;
+        for k in 0..self.arity as usize {
+            let ours = words::word_at(self.image, head + k);
+            let theirs = words::word_at(self.words, goal + k);
+            match self.compare(ours, theirs) {
+                Compared::Differ => return true,
+                Compared::Agree => {}
+                Compared::Unsure => return false,
+            }
+        }
+        false
+    }
+
+    // Whether the clause at a position is sure to fail.
+    #[tactic(auto, unfolding(crate::specs::Clash::fails_plainly))]
+    fn fails_plainly(self, position: u32) -> bool
+        requires { (self.slot < 65536) × (self.place < 1048576) × (self.arity < 65536) }
+        ensures { result ≡ fails_plainly self.entry.arity self.entry.image.now self.entry.words.now self.entry.array.now self.entry.cells.now self.entry.slot self.entry.child_base position self.entry.place }
+    {
+        let at = position as usize;
+        words::variables(words::word_at(self.image, at)) == 0 && self.clashes(at + 1)
+    }
+
+    // At most so many clauses from a position on, as long as each is sure to fail; for each the node's tried count rises. Answers how many, and the place behind them.
+    fn pass_over(self, nodes: &mut [u32], node: u32, start: u32, most: u32) -> Stretch
+        requires { (self.slot < 65536) × (self.place < 1048576) × (self.arity < 65536) × (most < 1024) × (start < 134217728) }
+        ensures { (passing nodes.new result.count ≡ pass_over self.entry.arity node self.entry.image.now self.entry.words.now self.entry.array.now self.entry.cells.now self.entry.slot self.entry.child_base self.entry.place most 0 nodes.old start) × (result.position ≡ clause_from self.entry.image.now start result.count) }
+    {
+        let mut position = start;
+        for count in 0..most {
+            if !self.fails_plainly(position) {
+                return Stretch { count, position };
+            }
+            memory::raise(nodes, node);
+            position += words::clause_length(words::word_at(self.image, position as usize));
+        }
+        Stretch {
+            count: most,
+            position,
+        }
     }
 }
 
@@ -174,29 +137,21 @@ pub fn skip<'a>(
         return none;
     }
     let slot = memory::frame(nodes, node);
-    let words = goals::clause_words(image, query, nodes, slot);
-    let child_base = memory::base(nodes, node) + memory::own_variables(nodes, node);
     let word = words::word_at(image, 1 + predicate as usize);
     let arity = words::arity(word);
-    if !fails_plainly(
-        image, words, array, cells, slot, child_base, position, place, arity,
-    ) || !blank(trail, 32 * child as usize, 2 * arity)
-    {
-        return none;
-    }
-    let untried = words::clause_count(word) - memory::tried(nodes, node);
-    pass_over(
+    let attempt = Attempt {
         image,
-        words,
-        nodes,
+        words: goals::clause_words(image, query, nodes, slot),
         array,
         cells,
         slot,
-        child_base,
-        position,
+        child_base: memory::base(nodes, node) + memory::own_variables(nodes, node),
         place,
         arity,
-        node,
-        most.min(untried),
-    )
+    };
+    if !attempt.fails_plainly(position) || !blank(trail, 32 * child as usize, 2 * arity) {
+        return none;
+    }
+    let untried = words::clause_count(word) - memory::tried(nodes, node);
+    attempt.pass_over(nodes, node, position, most.min(untried))
 }

@@ -11,8 +11,8 @@ unfolding clause_from
 returns-then-most-eq0 c = let a = c.args in
     (skipped-idle a.image.now a.query.now a.nodes.now a.cells.now a.trail.now a.array.now a.node a.child a.predicate a.place a.position a.most c.if-most-eq0.true, refl)
 
-pub overflow_add-child_base : goal.overflow_add-child_base
-overflow_add-child_base c = let a = c.args in
+pub overflow_add-attempt : goal.overflow_add-attempt
+overflow_add-attempt c = let a = c.args in
     omega (arith, c.base.ensures, c.own_variables.ensures, base-lt a.nodes.now a.node, own_variables-lt a.nodes.now a.node)
 
 pub fails_plainly-requires : goal.fails_plainly-requires
