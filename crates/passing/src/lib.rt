@@ -6,9 +6,12 @@ ghost use Rattle.model.specs.Image.{predicate_word};
 ghost use Rattle.model.specs.Fields.{clause_count};
 ghost use Rattle.model.specs.Decoding.{clause_from};
 ghost use Rattle.model.specs.Memory.{tried};
+ghost use Rattle.memory.specs.Views.{words_of, SameSlices};
 ghost use Rattle.passing.specs.Clash.{compare, clashes, fails_plainly};
-ghost use Rattle.passing.specs.Passing.{passing, pass_over, blank, skipped};
+ghost use Rattle.passing.specs.Passing.{passing, pass_over, blank, skipped, with_nodes};
 
+use goals::{Call, Search};
+use memory::View;
 use model::Found;
 
 // What a head's argument and a goal's come to while nothing is bound: they differ, they agree or one takes the other, or it is not known.
@@ -26,20 +29,22 @@ pub struct Stretch {
     pub position: u32,
 }
 
-// A goal that is tried against heads of its predicate: the image, and the words, the place and the arity of the goal, in what slot's clause it stands, and what the worker sees: its array, the cells, and the first of the child's variables.
+// A goal as it is tried against the heads of its predicate's clauses: the image, and the words that the goal stands in; the worker's array and the cells;
+// the slot whose clause the goal is of, the first of the child's variables, the goal's place and its arity.
+// What is searched by and what the worker has are lent for a time each: with one lifetime for both, the check would not know the worker's words afterwards.
 #[derive(Clone, Copy)]
-struct Attempt<'a> {
-    image: &'a [u32],
-    words: &'a [u32],
-    array: &'a [u32],
-    cells: &'a [u32],
+struct Attempt<'s, 'v> {
+    image: &'s [u32],
+    words: &'s [u32],
+    array: &'v [u32],
+    cells: &'v [u32],
     slot: u32,
     child_base: u32,
     place: usize,
     arity: u32,
 }
 
-impl<'a> Attempt<'a> {
+impl<'s, 'v> Attempt<'s, 'v> {
     #[tactic(auto, unfolding(crate::specs::Clash::compare, crate::specs::Clash::compared_with))]
     fn compare(self, head: u32, goal: u32) -> Compared
         requires { self.slot < 65536 }
@@ -115,38 +120,39 @@ fn blank(words: &[u32], start: usize, count: u32) -> bool
 
 // Passes over clauses of a live node's predicate from a position on, at most so many, if the next is sure to fail and the child's trail is still empty. Answers how many, and the place behind them.
 #[tactic(auto, unfolding(crate::specs::Passing::skipped, model::specs::Decoding::clause_from))]
-pub fn skip<'a>(
-    image: &'a [u32],
-    query: &'a [u32],
-    nodes: &mut [u32],
-    cells: &[u32],
-    trail: &[u32],
-    array: &[u32],
-    node: u32,
+pub fn skip(
+    search: Search<'_>,
+    view: &mut View<'_>,
+    call: Call,
     child: u32,
-    predicate: u32,
-    place: usize,
     position: u32,
     most: u32,
 ) -> Stretch
-    requires { (place < 1048576) × (position < 134217728) × (tried nodes.old node ≤ clause_count (predicate_word image.now predicate)) }
-    ensures { (passing nodes.new result.count ≡ skipped image.now query.now nodes.old cells.now trail.now array.now node child predicate place position most) × (result.position ≡ clause_from image.now position result.count) }
+    requires { (call.place < 1048576) × (position < 134217728) × (tried view.old.nodes.now call.node ≤ clause_count (predicate_word search.image.now call.predicate)) }
+    ensures did { (passing view.new.nodes.now result.count ≡ skipped search.entry.image.now search.entry.query.now view.old.nodes.now view.old.cells.now view.old.trail.now view.old.array.now call.node child call.predicate call.place position most) × (result.position ≡ clause_from search.entry.image.now position result.count) }
+    ensures kept { words_of view.new ≡ with_nodes (words_of view.old) view.new.nodes.now }
+    ensures lent { SameSlices view.old view.new }
 {
     let none = Stretch { count: 0, position };
     if most == 0 {
         return none;
     }
+    let node = call.node;
+    let nodes = &mut *view.nodes;
+    let array = &mut *view.array;
+    let cells = &mut *view.cells;
+    let trail = &mut *view.trail;
     let slot = memory::frame(nodes, node);
-    let word = words::word_at(image, 1 + predicate as usize);
+    let word = words::word_at(search.image, 1 + call.predicate as usize);
     let arity = words::arity(word);
     let attempt = Attempt {
-        image,
-        words: goals::clause_words(image, query, nodes, slot),
+        image: search.image,
+        words: search.clause_words(nodes, slot),
         array,
         cells,
         slot,
         child_base: memory::base(nodes, node) + memory::own_variables(nodes, node),
-        place,
+        place: call.place,
         arity,
     };
     if !attempt.fails_plainly(position) || !blank(trail, 32 * child as usize, 2 * arity) {
