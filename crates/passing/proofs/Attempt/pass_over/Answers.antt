@@ -19,9 +19,6 @@ returns-then-not-fails_plainly c = let a = c.args in
     let l = c.loop-count in
     (pass_over-by a.self a.node a.most false l.count l.nodes _ l.position _ c.loop-count-test.true (sym c.if-not-fails_plainly.true ∙ c.fails_plainly.ensures) refl refl ∙ l.invariant.whole, l.invariant.at)
 
-pub overflow_add-position : goal.overflow_add-position
-overflow_add-position c = omega (arith, c.loop-count.invariant.near, c.clause_length-position.ensures, clause_length-lt c.word_at.result)
-
 pub loop-count-preserved : goal.loop-count-preserved
 loop-count-preserved c = let a = c.args in
     let l = c.loop-count in
