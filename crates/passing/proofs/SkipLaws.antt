@@ -36,5 +36,5 @@ skipped-idle image query nodes cells trail array node child predicate place posi
     go true false = refl
     go true true = over
 
--- where none may be passed over
+-- what the check goes by in `skip` where none may be passed over
 pub ruleset idle = (skipped-idle)
