@@ -1,10 +1,11 @@
 -- One turn of each loop over a head's arguments and over clauses, by what was found there. Assumes nothing.
-use Rattle.std.proofs.Common.{◌≡◌, refl, sym, ap, ap₂, ◌∙◌, Bool, true, false, List, ℕ, suc, ◌+◌, ◌-◌, ◌≤◌, ◌<◌, arith, length, get_or, add-zero, add_assoc}
+use Rattle.std.proofs.Common.{◌≡◌, refl, sym, ap, ap₂, ◌∙◌, Bool, true, false, List, ℕ, suc, ◌+◌, ◌-◌, ◌≤◌, ◌<◌, arith, get_or, add-zero, add_assoc}
 use Rattle.std.proofs.Math.Nat.{sub-zero}
 use Rattle.model.specs.Fields.{clause_length}
 use Rattle.model.specs.Decoding.{clause_from}
 use Rattle.model.specs.Steps.{raised}
-use Rattle.goals.proofs.PlaceLaws.{clause_from-next}
+use Rattle.goals.proofs.PlaceLaws.{clause_from-end, clause_from-next}
+use Rattle.memory.proofs.FieldBounds.{clause_length-lt}
 use Rattle.passing.specs.declared.Attempt.{Attempt}
 use Rattle.passing.specs.declared.Compared.{Compared}
 use Rattle.passing.specs.declared.Compared.TheVariants.{Differ, Agree, Unsure}
@@ -36,13 +37,23 @@ module _ (attempt : Attempt) (head : ℕ) where
   clashes-end k h = let e : attempt.arity - k ≡ 0 = omega arith in rw e refl
 
   -- one argument, by how it compares
-  pub clashes-by : (compared : Compared) (k ours theirs : ℕ) → k < attempt.arity → ours ≡ get_or attempt.image.now (head + k) 0 → theirs ≡ get_or attempt.words.now (goal + k) 0
-      → compared ≡ compare attempt.child_base attempt.array.now attempt.cells.now attempt.slot ours theirs
-      → elim compared [ Differ ↦ true | Agree ↦ clashes_from (k + 1) | Unsure ↦ false ] ≡ clashes_from k
+  abbrev at_argument : ℕ → Compared
+  at_argument k = compare attempt.child_base attempt.array.now attempt.cells.now attempt.slot (get_or attempt.image.now (head + k) 0) (get_or attempt.words.now (goal + k) 0)
+
+  pub clashes-differ : (k : ℕ) → k < attempt.arity → at_argument k ≡ Differ → true ≡ clashes_from k
   unfolding clashes
-  clashes-by compared k ours theirs h o t e =
-      ap₂ (λ (h g : ℕ). elim compared [ Differ ↦ true | Agree ↦ among (attempt.arity - (k + 1)) h g | Unsure ↦ false ]) (sym (add_assoc head k 1)) (sym (add_assoc goal k 1))
-      ∙ rw (left-after k attempt.arity h, e, o, t) refl
+  clashes-differ k h e = rw (left-after k attempt.arity h, clashes, e) refl
+
+  pub clashes-unsure : (k : ℕ) → k < attempt.arity → at_argument k ≡ Unsure → false ≡ clashes_from k
+  unfolding clashes
+  clashes-unsure k h e = rw (left-after k attempt.arity h, clashes, e) refl
+
+  pub clashes-agree : (k : ℕ) → k < attempt.arity → at_argument k ≡ Agree → clashes_from (k + 1) ≡ clashes_from k
+  unfolding clashes
+  clashes-agree k h e = ap₂ (among (attempt.arity - (k + 1))) (sym (add_assoc head k 1)) (sym (add_assoc goal k 1)) ∙ rw (left-after k attempt.arity h, clashes, e) refl
+
+-- what the check goes by in `clashes`
+pub ruleset clashing = (clashes-start, clashes-end, clashes-differ, clashes-unsure, clashes-agree)
 
 module _ (attempt : Attempt) (node most : ℕ) where
   abbrev over : ℕ → ℕ → List ℕ → ℕ → Passing
@@ -63,14 +74,21 @@ module _ (attempt : Attempt) (node most : ℕ) where
   pass_over-end count nodes position all = let none : most - count ≡ 0 = omega arith in rw none (ap (passing nodes) (sym all))
 
   -- one clause, by whether it is sure to fail
-  pub pass_over-by : (fails : Bool) (count : ℕ) (nodes next : List ℕ) (position length : ℕ) → count < most
-      → fails ≡ fails_plainly attempt.arity attempt.image.now attempt.words.now attempt.array.now attempt.cells.now attempt.slot attempt.child_base position attempt.place
-      → next ≡ raised nodes node → length ≡ clause_length (get_or attempt.image.now position 0)
-      → elim fails [ true ↦ passed_from (count + 1) next (position + length) | false ↦ passing nodes count ] ≡ passed_from count nodes position
+  abbrev fails_at : ℕ → Bool
+  fails_at position = fails_plainly attempt.arity attempt.image.now attempt.words.now attempt.array.now attempt.cells.now attempt.slot attempt.child_base position attempt.place
+
+  pub pass_over-stops : (count : ℕ) (nodes : List ℕ) (position : ℕ) → count < most → fails_at position ≡ false → passing nodes count ≡ passed_from count nodes position
   unfolding pass_over
-  pass_over-by fails count nodes next position length h e n l =
-      ap₂ (λ (after : List ℕ) (on : ℕ). elim fails [ true ↦ passed_from (count + 1) after (position + on) | false ↦ passing nodes count ]) n l ∙ rw (left-after count most h, e) refl
+  pass_over-stops count nodes position h e = rw (left-after count most h, pass_over, e) refl
+
+  pub pass_over-fails : (count : ℕ) (nodes : List ℕ) (position : ℕ) → count < most → fails_at position ≡ true
+      → passed_from (count + 1) (raised nodes node) (position + clause_length (get_or attempt.image.now position 0)) ≡ passed_from count nodes position
+  unfolding pass_over
+  pass_over-fails count nodes position h e = rw (left-after count most h, pass_over, e) refl
 
 -- the place moves on with the count
 pub place-turn : (image : List ℕ) (start count position : ℕ) → position ≡ clause_from image start count → position + clause_length (get_or image position 0) ≡ clause_from image start (count + 1)
 place-turn image start count position at = ap (λ (p : ℕ). p + clause_length (get_or image p 0)) at ∙ sym (clause_from-next image count start)
+
+-- what the check goes by in `pass_over`
+pub ruleset passing_over = (pass_over-start, pass_over-end, pass_over-stops, pass_over-fails, place-turn, clause_from-end, clause_length-lt)

@@ -35,3 +35,6 @@ skipped-idle image query nodes cells trail array node child predicate place posi
     go false empty = refl
     go true false = refl
     go true true = over
+
+-- what the check goes by in `skip` where none may be passed over
+pub ruleset idle = (skipped-idle)

@@ -62,6 +62,7 @@ impl<'s, 'v> Attempt<'s, 'v> {
     }
 
     // Whether a head's arguments, from a place on, and the goal's differ in a constant.
+    #[tactic(auto, using(crate::proofs::PassLaws::clashing))]
     fn clashes(self, head: usize) -> bool
         requires { (self.slot < 65536) × (head < 1099511627776) × (self.place < 1048576) × (self.arity < 65536) }
         ensures { result ≡ clashes self.entry.arity self.entry.image.now self.entry.words.now self.entry.array.now self.entry.cells.now self.entry.slot self.entry.child_base head (self.entry.place + 1) }
@@ -90,6 +91,7 @@ impl<'s, 'v> Attempt<'s, 'v> {
     }
 
     // At most so many clauses from a position on, as long as each is sure to fail; for each the node's tried count rises. Answers how many, and the place behind them.
+    #[tactic(auto, using(crate::proofs::PassLaws::passing_over))]
     fn pass_over(self, nodes: &mut [u32], node: u32, start: u32, most: u32) -> Stretch
         requires { (self.slot < 65536) × (self.place < 1048576) × (self.arity < 65536) × (most < 1024) × (start < 134217728) }
         ensures { (passing nodes.new result.count ≡ pass_over self.entry.arity node self.entry.image.now self.entry.words.now self.entry.array.now self.entry.cells.now self.entry.slot self.entry.child_base self.entry.place most 0 nodes.old start) × (result.position ≡ clause_from self.entry.image.now start result.count) }
@@ -119,7 +121,7 @@ fn blank(words: &[u32], start: usize, count: u32) -> bool
 }
 
 // Passes over clauses of a live node's predicate from a position on, at most so many, if the next is sure to fail and the child's trail is still empty. Answers how many, and the place behind them.
-#[tactic(auto, unfolding(crate::specs::Passing::skipped, model::specs::Decoding::clause_from))]
+#[tactic(auto, using(crate::proofs::FieldRules::field_bounds, crate::proofs::SkipLaws::idle), unfolding(crate::specs::Passing::skipped, model::specs::Decoding::clause_from))]
 pub fn skip(
     search: Search<'_>,
     view: &mut View<'_>,
