@@ -6,8 +6,8 @@ use Rattle.model.specs.Memory.{memory}
 use Rattle.calls.proofs.CallLaws.{call-legal, step_from}
 use Rattle.calls.proofs.step.Goals as goal
 
-pub slice_bounds-step-end : goal.slice_bounds-step-end
-slice_bounds-step-end c = let a = c.args in
+pub slice_bounds-array-end : goal.slice_bounds-array-end
+slice_bounds-array-end c = let a = c.args in
     let l = call-legal a.image.now a.query.now (memory a.nodes.now a.cells.now a.trail.now a.arrays.now a.workers.now) a.worker (sym c.in_ok-call_refusal.was ∙ c.call_refusal.ensures) in
     let n = l.0.arrays in
     let w = l.1 in
@@ -16,4 +16,4 @@ slice_bounds-step-end c = let a = c.args in
 pub returns : goal.returns
 returns c = let a = c.args in
     step_from a.image.now a.query.now a.nodes.now a.cells.now a.trail.now a.arrays.now a.workers.now a.worker (2048 * a.worker + 2048 - 2048 * a.worker) _ _ _ _ _
-    c.step-outcome.result c.word_at.result (add-sub_cancel_left (2048 * a.worker) 2048) (sym c.in_ok-call_refusal.was ∙ c.call_refusal.ensures) c.step-outcome.ensures c.word_at.ensures
+    c.step_in_view-outcome.result c.word_at.result (add-sub_cancel_left (2048 * a.worker) 2048) (sym c.in_ok-call_refusal.was ∙ c.call_refusal.ensures) c.step_in_view-outcome.ensures c.word_at.ensures
