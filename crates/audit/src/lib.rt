@@ -195,10 +195,10 @@ fn array_sound(tree: Tree<'_>, arrays: &[u32], worker: u32, slot: u32) -> bool
     let mut array = [0u32; 2048];
     let depth = memory::depth(tree.nodes, slot);
     memory::climb::<PutIn>(&mut array, tree.nodes, tree.trail, 0, slot, depth, 0);
-    (0..2048u32).all(|k| {
-        let at = 2048 * worker as usize + k as usize;
-        words::word_at(arrays, at) == words::word_at(&array, k as usize)
-    })
+    let start = arrays.len().min(2048 * worker as usize);
+    let there = (arrays.len() - start).min(2048);
+    arrays[start..start + there] == array[..there]
+        && bindings::zeros(&array, there, 2048 - there as u32)
 }
 
 // A worker's slot is used, and its array is that of its slot.

@@ -20,7 +20,8 @@ pub fn zeros(words: &[u32], start: usize, count: u32) -> bool
     requires { start < 1099511627776 }
     ensures { result ≡ zeros count words.now start }
 {
-    (start..start + count as usize).all(|at| words::word_at(words, at) == 0)
+    let end = words.len().min(start + count as usize);
+    words[start.min(end)..end].iter().all(|word| *word == 0)
 }
 
 // A slot is on the path to a slot, climbing at most so often.
