@@ -3,14 +3,11 @@
 
 ghost use Rattle.std.specs.Prelude.{◌≡◌, length};
 ghost use Rattle.model.specs.Memory.{memory};
-ghost use Rattle.model.specs.Steps.{view, stepped, step, ran, run_from};
 ghost use Rattle.model.specs.Calls.{lengths_right, load_refusal, call_refusal, loaded_to, load_call, step_called, step_call, run_called, run_call, move_refusal, move_called, move_call, read_refusal, read_called, read_call};
 
 use bindings::Tree;
-use engine::RunEnd;
 use goals::Search;
-use memory::View;
-use model::{MoveAnswer, Outcome, Refusal, Refused, RunAnswer, StepAnswer, Verdict, Written};
+use model::{MoveAnswer, Refusal, Refused, RunAnswer, StepAnswer, Verdict, Written};
 
 const WORKERS: u32 = 4;
 
@@ -97,51 +94,6 @@ pub fn load(
     Ok(())
 }
 
-// A step in the view that these slices are.
-fn step_in_view(
-    search: Search<'_>,
-    nodes: &mut [u32],
-    cells: &mut [u32],
-    trail: &mut [u32],
-    array: &mut [u32],
-    workers: &mut [u32],
-    worker: u32,
-) -> Outcome
-    ensures { stepped result (view nodes.new cells.new trail.new array.new workers.new) ≡ step search.entry.image.now search.entry.query.now (view nodes.old cells.old trail.old array.old workers.old) worker }
-{
-    let mut view = View {
-        nodes,
-        cells,
-        trail,
-        array,
-        workers,
-    };
-    engine::step(search, &mut view, worker)
-}
-
-// A run in the view that these slices are.
-fn run_in_view(
-    search: Search<'_>,
-    nodes: &mut [u32],
-    cells: &mut [u32],
-    trail: &mut [u32],
-    array: &mut [u32],
-    workers: &mut [u32],
-    worker: u32,
-    budget: u32,
-) -> RunEnd
-    ensures { ran result.outcome result.count (view nodes.new cells.new trail.new array.new workers.new) ≡ run_from budget 0 search.entry.image.now search.entry.query.now worker (view nodes.old cells.old trail.old array.old workers.old) }
-{
-    let mut view = View {
-        nodes,
-        cells,
-        trail,
-        array,
-        workers,
-    };
-    engine::run(search, &mut view, worker, budget)
-}
-
 // A step by a worker.
 #[tactic(auto, unfolding(model::specs::Calls::step_call, model::specs::Calls::step_if))]
 pub fn step<'a>(
@@ -161,7 +113,7 @@ pub fn step<'a>(
     let base = 2048 * worker as usize;
     let end = base + 2048;
     let array = &mut arrays[base..end];
-    let outcome = step_in_view(search, nodes, cells, trail, array, workers, worker);
+    let outcome = engine::step(search, nodes, cells, trail, array, workers, worker);
     Ok((outcome, words::word_at(workers, worker as usize)))
 }
 
@@ -185,7 +137,7 @@ pub fn run<'a>(
     let base = 2048 * worker as usize;
     let end = base + 2048;
     let array = &mut arrays[base..end];
-    let ended = run_in_view(search, nodes, cells, trail, array, workers, worker, budget);
+    let ended = engine::run(search, nodes, cells, trail, array, workers, worker, budget);
     let slot = words::word_at(workers, worker as usize);
     Ok((ended.outcome, slot, ended.count))
 }

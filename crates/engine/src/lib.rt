@@ -6,7 +6,7 @@ ghost use Rattle.std.specs.Prelude.{◌≡◌, ◌+◌, ◌<◌};
 ghost use Rattle.memory.specs.Views.{words_of, SameSlices};
 ghost use Rattle.turns.specs.Hand.{Begun, HandTrue, SameTables};
 ghost use Rattle.engine.specs.Runs.{stops, last_count};
-ghost use Rattle.model.specs.Steps.{stepped, step, ran, run_from};
+ghost use Rattle.model.specs.Steps.{view, stepped, step, ran, run_from};
 
 use goals::Search;
 use memory::View;
@@ -30,8 +30,8 @@ pub fn begin(nodes: &[u32], hand: &mut Hand<'_>)
     children::tally(nodes, hand.children);
 }
 
-// A step by a worker at the node where it stands.
-pub fn step(search: Search<'_>, view: &mut View<'_>, worker: u32) -> Outcome
+// A step in a view.
+fn step_in_view(search: Search<'_>, view: &mut View<'_>, worker: u32) -> Outcome
     ensures did { stepped result (words_of view.new) ≡ step search.entry.image.now search.entry.query.now (words_of view.old) worker }
     ensures lent { SameSlices view.old view.new }
 {
@@ -117,8 +117,8 @@ pub fn run_on(
     }
 }
 
-// Steps of a worker until Answer, Wait, Finished or Full, or until the budget is used.
-pub fn run(search: Search<'_>, view: &mut View<'_>, worker: u32, budget: u32) -> RunEnd
+// A run in a view, by tables of its own.
+fn run_in_view(search: Search<'_>, view: &mut View<'_>, worker: u32, budget: u32) -> RunEnd
     ensures did { ran result.outcome result.count (words_of view.new) ≡ run_from budget 0 search.entry.image.now search.entry.query.now worker (words_of view.old) }
     ensures lent { SameSlices view.old view.new }
 {
@@ -133,4 +133,49 @@ pub fn run(search: Search<'_>, view: &mut View<'_>, worker: u32, budget: u32) ->
     let nodes = &mut *view.nodes;
     begin(nodes, &mut hand);
     run_on(search, view, &mut hand, worker, budget)
+}
+
+// A step by a worker at the node where it stands.
+pub fn step(
+    search: Search<'_>,
+    nodes: &mut [u32],
+    cells: &mut [u32],
+    trail: &mut [u32],
+    array: &mut [u32],
+    workers: &mut [u32],
+    worker: u32,
+) -> Outcome
+    ensures { stepped result (view nodes.new cells.new trail.new array.new workers.new) ≡ step search.entry.image.now search.entry.query.now (view nodes.old cells.old trail.old array.old workers.old) worker }
+{
+    let mut view = View {
+        nodes,
+        cells,
+        trail,
+        array,
+        workers,
+    };
+    step_in_view(search, &mut view, worker)
+}
+
+// Steps of a worker until Answer, Wait, Finished or Full, or until the budget is used.
+pub fn run(
+    search: Search<'_>,
+    nodes: &mut [u32],
+    cells: &mut [u32],
+    trail: &mut [u32],
+    array: &mut [u32],
+    workers: &mut [u32],
+    worker: u32,
+    budget: u32,
+) -> RunEnd
+    ensures { ran result.outcome result.count (view nodes.new cells.new trail.new array.new workers.new) ≡ run_from budget 0 search.entry.image.now search.entry.query.now worker (view nodes.old cells.old trail.old array.old workers.old) }
+{
+    let mut view = View {
+        nodes,
+        cells,
+        trail,
+        array,
+        workers,
+    };
+    run_in_view(search, &mut view, worker, budget)
 }

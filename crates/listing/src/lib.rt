@@ -11,7 +11,6 @@ ghost use Rattle.listing.specs.Fits.{Fits};
 
 use desk_model::{Ending, Line, Opened, Stop};
 use goals::Search;
-use memory::View;
 use model::{Outcome, Refused};
 
 // Where worker 0 stopped, and the steps so far.
@@ -61,14 +60,9 @@ fn advance<'a>(
 {
     let left = budget(steps);
     let end: usize = 2048;
-    let mut view = View {
-        nodes,
-        cells,
-        trail,
-        array: &mut arrays[..end],
-        workers,
-    };
-    let ended = engine::run(Search { image, query }, &mut view, 0, left);
+    let array = &mut arrays[..end];
+    let search = Search { image, query };
+    let ended = engine::run(search, nodes, cells, trail, array, workers, 0, left);
     let outcome = ended.outcome;
     let count = ended.count;
     let stop = stop_of(outcome);

@@ -16,4 +16,4 @@ slice_bounds-array-end c = let a = c.args in
 pub returns : goal.returns
 returns c = let a = c.args in
     run-from a.image.now a.query.now a.nodes.now a.cells.now a.trail.now a.arrays.now a.workers.now a.worker a.budget (2048 * a.worker + 2048 - 2048 * a.worker) _ _ _ _ _
-    c.run_in_view-ended.result.outcome c.run_in_view-ended.result.count c.word_at-slot.result (add-sub_cancel_left (2048 * a.worker) 2048) (sym c.in_ok-call_refusal.was ∙ c.call_refusal.ensures) c.run_in_view-ended.ensures c.word_at-slot.ensures
+    c.run-ended.result.outcome c.run-ended.result.count c.word_at-slot.result (add-sub_cancel_left (2048 * a.worker) 2048) (sym c.in_ok-call_refusal.was ∙ c.call_refusal.ensures) c.run-ended.ensures c.word_at-slot.ensures

@@ -16,4 +16,4 @@ slice_bounds-array-end c = let a = c.args in
 pub returns : goal.returns
 returns c = let a = c.args in
     step_from a.image.now a.query.now a.nodes.now a.cells.now a.trail.now a.arrays.now a.workers.now a.worker (2048 * a.worker + 2048 - 2048 * a.worker) _ _ _ _ _
-    c.step_in_view-outcome.result c.word_at.result (add-sub_cancel_left (2048 * a.worker) 2048) (sym c.in_ok-call_refusal.was ∙ c.call_refusal.ensures) c.step_in_view-outcome.ensures c.word_at.ensures
+    c.step-outcome.result c.word_at.result (add-sub_cancel_left (2048 * a.worker) 2048) (sym c.in_ok-call_refusal.was ∙ c.call_refusal.ensures) c.step-outcome.ensures c.word_at.ensures

@@ -5,6 +5,7 @@ use Rattle.model.specs.Steps.{ran}
 use Rattle.engine.proofs.StopLaws.{run_from-end, run_from-stops, run_from-more}
 use Rattle.engine.proofs.RunLaws.{progress-some, progress-run, progress-did}
 use Rattle.engine.proofs.run_on.Goals as goal
+
 pub loop-count-preserved-in-Passed : goal.loop-count-preserved-in-Passed
 loop-count-preserved-in-Passed c = let a = c.args in
     let l = c.loop-count in

@@ -1,9 +1,9 @@
--- `engine::step` meets its contract. Assumes nothing.
+-- `engine::step_in_view` meets its contract. Assumes nothing.
 use Rattle.std.proofs.Common.{arith}
 use Rattle.memory.specs.Views.{words_of}
 use Rattle.engine.proofs.RunLaws.{progress-one, progress-did}
 use Rattle.turns.proofs.HandLaws.{begun-at-hand}
-use Rattle.engine.proofs.step.Goals as goal
+use Rattle.engine.proofs.step_in_view.Goals as goal
 
 pub advance-requires : goal.advance-requires
 advance-requires c = let a = c.args in (omega arith, begun-at-hand a.search.image.now a.search.query.now a.view.now.nodes.now _ _ _ c.begin.ensures.did)
