@@ -95,17 +95,24 @@ impl Memory {
         engine::begin(&self.nodes, &mut lent);
     }
 
-    fn run<'a>(&mut self, hand: &mut Tables, image: &'a [u32], query: &'a [u32], left: u32) -> RunEnd
+    fn run<'a>(
+        &mut self,
+        hand: &mut Tables,
+        image: &'a [u32],
+        query: &'a [u32],
+        left: u32,
+    ) -> RunEnd
         requires { AtHand image.now query.now self.old.nodes hand.old.places hand.old.clauses hand.old.children }
         ensures { AtHand image.now query.now self.new.nodes hand.new.places hand.new.clauses hand.new.children }
     {
         let arrays = &mut self.arrays[..];
         let own: usize = 2048;
+        let array = &mut arrays[..own];
         let mut view = View {
             nodes: &mut self.nodes,
             cells: &mut self.cells,
             trail: &mut self.trail,
-            array: &mut arrays[..own],
+            array,
             workers: &mut self.workers,
         };
         let mut lent = Hand {

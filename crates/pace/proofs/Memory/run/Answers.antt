@@ -2,5 +2,5 @@
 use Rattle.std.proofs.Common.{length-take, arith}
 use Rattle.pace.proofs.Memory.run.Goals as goal
 
-pub slice_bounds-run_on-end-4 : goal.slice_bounds-run_on-end-4
-slice_bounds-run_on-end-4 c = simp length-take (omega arith)
+pub slice_bounds-array-end : goal.slice_bounds-array-end
+slice_bounds-array-end c = simp length-take (omega arith)
