@@ -72,10 +72,10 @@ fn value_sound(nodes: &[u32], slot: u32, number: u32, word: u32) -> bool
 {
     let tag = words::read(word, Kind::Value, 0);
     let value = words::read(word, Kind::Value, 1);
-    if tag == 2 {
+    if tag == words::CON_TAG {
         return value < 268435456;
     }
-    tag == 1 && ref_sound(nodes, slot, number, value)
+    tag == words::REF_TAG && ref_sound(nodes, slot, number, value)
 }
 
 // A number is none of a slot's first entries.
@@ -100,7 +100,8 @@ impl Tree<'_> {
             return word == 0;
         }
         let number = memory::base(self.nodes, slot) + variable;
-        word == memory::value_word(0, number) || value_sound(self.nodes, slot, number, word)
+        word == memory::value_word(words::VNO_TAG, number)
+            || value_sound(self.nodes, slot, number, word)
     }
 
     // All cells of a slot.
@@ -130,7 +131,8 @@ impl Tree<'_> {
         ensures { result ≡ vno_at self.entry.nodes.now self.entry.cells.now owner number }
     {
         let variable = number.saturating_sub(memory::base(self.nodes, owner)) as usize;
-        words::word_at(self.cells, 32 * owner as usize + variable) == memory::value_word(0, number)
+        words::word_at(self.cells, 32 * owner as usize + variable)
+            == memory::value_word(words::VNO_TAG, number)
     }
 
     // A trail entry: its number, its number's cell and its value.

@@ -32,7 +32,7 @@ fn past_head(words: &[u32], start: usize, most: u32) -> usize
 {
     let end = start + most as usize;
     for at in start..end {
-        if words::op(words::word_at(words, at)) == 9 {
+        if words::op(words::word_at(words, at)) == words::GOAL_OP {
             return at;
         }
     }

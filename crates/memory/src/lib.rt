@@ -147,7 +147,11 @@ pub fn lay(cells: &mut [u32], start: usize, first: u32, count: u32)
     ensures { cells.new ≡ laid count start first cells.old }
 {
     for k in 0..count {
-        words::put(cells, start + k as usize, value_word(0, first + k));
+        words::put(
+            cells,
+            start + k as usize,
+            value_word(words::VNO_TAG, first + k),
+        );
     }
 }
 

@@ -50,7 +50,7 @@ impl<'s, 'v> Attempt<'s, 'v> {
         requires { self.slot < 65536 }
         ensures { result ≡ compare self.entry.child_base self.entry.array.now self.entry.cells.now self.entry.slot head goal }
     {
-        if words::op(head) == 1 {
+        if words::op(head) == words::VAR_OP {
             return Compared::Unsure;
         }
         match terms::argument_of(self.array, self.cells, self.slot, goal) {

@@ -32,7 +32,7 @@ fn says(array: &[u32], cells: &[u32], at: CellAddr) -> u32
     ensures { result ≡ says array.now cells.now at.0 }
 {
     let cell = words::word_at(cells, at.0 as usize);
-    if words::tag(cell) != 0 {
+    if words::tag(cell) != words::VNO_TAG {
         return cell;
     }
     words::word_at(array, words::value(cell) as usize)
@@ -57,7 +57,7 @@ pub fn dereference(array: &[u32], cells: &[u32], start: CellAddr) -> Found
     let mut at = start;
     for _ in 0..2048_u32 {
         let said = says(array, cells, at);
-        if words::tag(said) != 1 {
+        if words::tag(said) != words::REF_TAG {
             return found(cells, said, at);
         }
         at = CellAddr(words::value(said));
@@ -71,7 +71,7 @@ pub fn argument_of(array: &[u32], cells: &[u32], slot: u32, word: u32) -> Found
     requires { slot < 65536 }
     ensures { result ≡ argument_of array.now cells.now slot word }
 {
-    if words::op(word) != 1 {
+    if words::op(word) != words::VAR_OP {
         return Found::Constant(words::constant(word));
     }
     let at = 32 * slot + words::variable_number(word);
@@ -115,17 +115,17 @@ fn pairing(a: Found, b: Found) -> Pairing
         (Found::Constant(x), Found::Constant(y)) if x == y => Pairing::Nothing,
         (Found::Constant(_), Found::Constant(_)) => Pairing::Clash,
         (Found::Constant(x), Found::Unbound(n, at)) => {
-            Pairing::Binds(n, at, memory::value_word(2, x))
+            Pairing::Binds(n, at, memory::value_word(words::CON_TAG, x))
         }
         (Found::Unbound(n, at), Found::Constant(y)) => {
-            Pairing::Binds(n, at, memory::value_word(2, y))
+            Pairing::Binds(n, at, memory::value_word(words::CON_TAG, y))
         }
         (Found::Unbound(n, _), Found::Unbound(m, _)) if n.0 == m.0 => Pairing::Nothing,
         (Found::Unbound(n, at), Found::Unbound(m, other)) if n.0 < m.0 => {
-            Pairing::Binds(m, other, memory::value_word(1, at.0))
+            Pairing::Binds(m, other, memory::value_word(words::REF_TAG, at.0))
         }
         (Found::Unbound(n, at), Found::Unbound(_, other)) => {
-            Pairing::Binds(n, at, memory::value_word(1, other.0))
+            Pairing::Binds(n, at, memory::value_word(words::REF_TAG, other.0))
         }
     }
 }

@@ -18,6 +18,13 @@ pub const CLAUSE_OP: u32 = 8;
 
 pub const GOAL_OP: u32 = 9;
 
+// The tags of values: its own number, where nothing is bound; another variable's cell; a constant.
+pub const VNO_TAG: u32 = 0;
+
+pub const REF_TAG: u32 = 1;
+
+pub const CON_TAG: u32 = 2;
+
 // The widths of every kind of word, most significant first, a row a kind.
 const WIDTHS: [[u32; 6]; 11] = [
     [4, 10, 1, 17, 0, 0], // Header

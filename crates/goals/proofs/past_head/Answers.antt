@@ -10,13 +10,13 @@ loop-at-init c = let a = c.args in
     let e : a.start + a.most - a.start ≡ a.most = omega arith in
     ap (λ (n : ℕ). past_head n a.words.now a.start) e
 
-pub returns-then-op-eq9 : goal.returns-then-op-eq9
-returns-then-op-eq9 c = let l = c.loop-at in
-    past_head-hit c.args.words.now l.at (c.args.start + c.args.most) (omega arith) (ap op (sym c.word_at.ensures) ∙ sym c.op.ensures ∙ c.if-op-eq9.true) ∙ l.invariant
+pub returns-then-op-eq-GOAL_OP : goal.returns-then-op-eq-GOAL_OP
+returns-then-op-eq-GOAL_OP c = let l = c.loop-at in
+    past_head-hit c.args.words.now l.at (c.args.start + c.args.most) (omega arith) (ap op (sym c.word_at.ensures) ∙ sym c.op.ensures ∙ c.if-op-eq-GOAL_OP.true) ∙ l.invariant
 
 pub loop-at-preserved : goal.loop-at-preserved
 loop-at-preserved c = let l = c.loop-at in
-    past_head-miss c.args.words.now l.at (c.args.start + c.args.most) (omega arith) (λ e. c.if-op-eq9.false (c.op.ensures ∙ ap op c.word_at.ensures ∙ e)) ∙ l.invariant
+    past_head-miss c.args.words.now l.at (c.args.start + c.args.most) (omega arith) (λ e. c.if-op-eq-GOAL_OP.false (c.op.ensures ∙ ap op c.word_at.ensures ∙ e)) ∙ l.invariant
 
 pub returns : goal.returns
 returns c = let l = c.loop-at in
