@@ -1,11 +1,10 @@
 -- Opening a file, by what laying out its words, loading it and writing a line promise. Document 01, "The desk program". Assumes nothing.
-use Rattle.std.proofs.Common.{◌≡◌, refl, sym, ap, ap₂, ◌∙◌, unwrap_or, Bool, true, false, cond, List, [], ◌∷◌, ℕ, zero, suc, ◌+◌, ◌-◌, ◌≤◌, ◌<◌, arith, leb, length, take, drop, le-leb, None, Some}
+use Rattle.std.proofs.Common.{◌≡◌, refl, sym, ap, ap₂, ◌∙◌, unwrap_or, Bool, true, false, cond, List, [], ◌∷◌, ℕ, zero, suc, ◌+◌, ◌-◌, ◌≤◌, ◌<◌, arith, leb, length, take, drop, le-leb, None, Some, Ok}
 use native.Mathlib.Nat.{sub-zero}
 use lib.Seq.{take-nil}
 use borrow.Author.Tests.{lt-leb}
 use Rattle.model.specs.declared.Refusal.{Refusal}
 use Rattle.model.specs.Answers.{Verdict, refused_at}
-use Rattle.std.proofs.Common.{Ok}
 use Rattle.model.specs.Numbers.{refusal_number}
 use Rattle.model.specs.Memory.{Memory}
 use Rattle.model.specs.Calls.{Loaded, loaded_to, load_call}

@@ -1,6 +1,6 @@
 -- The calls, one after another, print the whole listing: document 01, "The desk program". `open` gives the only line or the search, and `next_line` a line of the search
 -- and what is left of it. So what a program prints that writes out each line in turn is the definition's `listing`. Assumes nothing.
-use Rattle.std.specs.Prelude.{◌≡◌, Bool, true, cond, List, [], ◌++◌, ℕ, suc, ◌+◌, ◌/◌, ◌≤◌, length, take, drop, Ok, Err}
+use Rattle.std.specs.Prelude.{◌≡◌, Bool, true, cond, List, [], ◌++◌, ℕ, suc, ◌+◌, ◌/◌, ◌≤◌, length, take, drop, Ok, Err, None, Some}
 use Rattle.std.proofs.Math.Path.{refl, sym, ap}
 use Rattle.std.proofs.Common.{ap₂, ◌∙◌, arith, length-drop, take_at, eq-eqb, le-leb}
 use Rattle.std.proofs.Math.Seq.{take-append_seam}
@@ -17,7 +17,6 @@ use Rattle.desk_model.specs.declared.Stop.{Stop}
 use Rattle.desk_model.specs.declared.Stop.TheVariants.{Answer, Ended}
 use Rattle.desk_model.specs.declared.Line.{Line}
 use Rattle.desk_model.specs.declared.Line.TheVariants.{NoRoom, More, Last}
-use Rattle.std.specs.Prelude.{None, Some}
 use Rattle.desk_model.specs.declared.Opened.{Opened}
 use Rattle.desk_model.specs.declared.Opened.TheVariants.{NoRoom as NoRoomToOpen, Refused as RefusedFile, Ready}
 use Rattle.desk_model.specs.Lines.{refused_line}

@@ -1,6 +1,5 @@
 -- A head that clashes fails, and taking its entries out again and clearing them gives array and trail back. Document 01, rule 7, "Failure". Assumes nothing.
-use Rattle.std.proofs.Common.{◌≡◌, refl, sym, ap, subst, ◌∙◌, inl, inr, Bool, true, false, cond, List, ℕ, zero, suc, ◌+◌, ◌*◌, ◌≤◌, ◌<◌, add-zero, zero-add, arith, eqb, ltb, length, get_or, set}
-use Rattle.std.proofs.Common.{Ok, Err}
+use Rattle.std.proofs.Common.{◌≡◌, refl, sym, ap, subst, ◌∙◌, inl, inr, Bool, true, false, cond, List, ℕ, zero, suc, ◌+◌, ◌*◌, ◌≤◌, ◌<◌, add-zero, zero-add, arith, eqb, ltb, length, get_or, set, Ok, Err}
 use Rattle.model.specs.declared.VarNo.{VarNo}
 use Rattle.model.specs.declared.CellAddr.{CellAddr}
 use Rattle.model.specs.declared.Found.{Found}

@@ -1,8 +1,7 @@
 -- A lent store: the words in its slices beside what unifying came to, and that it holds the same slices. Assumes nothing.
 use Rattle.std.specs.Prelude.{◌≡◌}
 use Rattle.terms.specs.declared.Store.{Store}
-use Rattle.model.specs.Terms.{Unified, store}
-use Rattle.model.specs.Terms.{Store as WordStore}
+use Rattle.model.specs.Terms.{Unified, store, Store as WordStore}
 
 -- the words that the store's slices hold, and what unifying came to
 abbrev pub stored : Store → Unified → WordStore

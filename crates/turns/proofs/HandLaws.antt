@@ -1,6 +1,5 @@
 -- What one turn of a run leaves of the first node words: all of them while clauses are passed over, else all but one slot's. So a table of children can follow. Assumes nothing.
-use Rattle.std.proofs.Common.{◌≡◌, refl, sym, ap, subst, ◌∙◌, Bool, true, false, cond, List, [], ◌∷◌, ℕ, zero, suc, ◌+◌, ◌-◌, ◌*◌, ◌≤◌, ◌<◌, min, arith, get_or, set, get_or-set_other}
-use Rattle.std.proofs.Common.{Ok, Err}
+use Rattle.std.proofs.Common.{◌≡◌, refl, sym, ap, subst, ◌∙◌, Bool, true, false, cond, List, [], ◌∷◌, ℕ, zero, suc, ◌+◌, ◌-◌, ◌*◌, ◌≤◌, ◌<◌, min, arith, get_or, set, get_or-set_other, Ok, Err}
 use Rattle.model.specs.declared.Kind.TheVariants.{Node2, Goal}
 use Rattle.model.specs.declared.Outcome.{Outcome}
 use Rattle.model.specs.Terms.{Unified}

@@ -1,7 +1,6 @@
 -- Each clause that is passed over is a step that says Tried and changes the tried count alone; so many of them are so many steps of a run. Document 01, rule 7. Assumes nothing.
-use Rattle.std.proofs.Common.{◌≡◌, refl, sym, ap, ap₂, subst, ◌∙◌, Bool, true, false, cond, ◌&&◌, List, ℕ, zero, suc, ◌+◌, ◌*◌, ◌≤◌, ◌<◌, arith, add-zero, eqb, leb, length, get_or, eqb-true}
+use Rattle.std.proofs.Common.{◌≡◌, refl, sym, ap, ap₂, subst, ◌∙◌, Bool, true, false, cond, ◌&&◌, List, ℕ, zero, suc, ◌+◌, ◌*◌, ◌≤◌, ◌<◌, arith, add-zero, eqb, leb, length, get_or, eqb-true, Err}
 use borrow.Author.Tests.{lt-leb}
-use Rattle.std.proofs.Common.{Err}
 use Rattle.model.specs.declared.Outcome.TheVariants.{Tried}
 use Rattle.model.specs.Fields.{arity, sequential, clause_count, first_clause, variables, clause_length}
 use Rattle.model.specs.Image.{predicate_word}

@@ -1,9 +1,8 @@
 -- `calls::load` meets its contract. Assumes nothing.
-use Rattle.std.proofs.Common.{sym, ap, ◌∙◌}
+use Rattle.std.proofs.Common.{sym, ap, ◌∙◌, Ok}
 use Rattle.model.specs.Calls.{loaded_to, load_if, load_call}
 use Rattle.model.specs.Memory.{memory}
 use Rattle.model.specs.Answers.{Verdict}
-use Rattle.std.proofs.Common.{Ok}
 use Rattle.calls.proofs.CallLaws.{load-lengths}
 use Rattle.calls.proofs.load.Goals as goal
 

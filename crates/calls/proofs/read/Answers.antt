@@ -1,6 +1,5 @@
 -- `calls::read` meets its contract. Assumes nothing.
-use Rattle.std.proofs.Common.{sym, ◌∙◌}
-use Rattle.std.proofs.Common.{length}
+use Rattle.std.proofs.Common.{sym, ◌∙◌, length}
 use Rattle.model.specs.Memory.{memory}
 use Rattle.calls.proofs.CallLaws.{call-legal, read-legal, read-from}
 use Rattle.calls.proofs.read.Goals as goal

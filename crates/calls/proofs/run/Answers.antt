@@ -1,6 +1,5 @@
 -- `calls::run` meets its contract. Assumes nothing.
-use Rattle.std.proofs.Common.{sym, ◌∙◌}
-use Rattle.std.proofs.Common.{◌+◌, ◌-◌, ◌*◌, arith}
+use Rattle.std.proofs.Common.{sym, ◌∙◌, ◌+◌, ◌-◌, ◌*◌, arith}
 use native.Mathlib.Nat.{add-sub_cancel_left}
 use Rattle.model.specs.Memory.{memory}
 use Rattle.calls.proofs.CallLaws.{call-legal, run-from}
