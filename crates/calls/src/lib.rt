@@ -1,4 +1,5 @@
 // The calls on a loaded memory: each is its refusals, in document 01's order, and then a core that judges nothing. A refused call leaves every lent word as it is.
+// The slices come one by one, as C lends them.
 #![tactic(auto)]
 
 ghost use Rattle.std.specs.Prelude.{◌≡◌, length};

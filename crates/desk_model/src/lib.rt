@@ -9,7 +9,7 @@ pub enum Ending {
     Spent,
 }
 
-// Where a run of worker 0 stops: at an answer, or at the search's end.
+// Where a run of worker 0 stops: at an answer, or at the search's end. Neither is an absence, so it is no Option.
 #[derive(Clone, Copy, Debug, PartialEq, Eq)]
 pub enum Stop {
     Answer,

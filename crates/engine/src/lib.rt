@@ -135,7 +135,7 @@ fn run_in_view(search: Search<'_>, view: &mut View<'_>, worker: u32, budget: u32
     run_on(search, view, &mut hand, worker, budget)
 }
 
-// A step by a worker at the node where it stands.
+// A step by a worker at the node where it stands. The slices come one by one, as the calls lend them.
 pub fn step(
     search: Search<'_>,
     nodes: &mut [u32],
@@ -157,7 +157,7 @@ pub fn step(
     step_in_view(search, &mut view, worker)
 }
 
-// Steps of a worker until Answer, Wait, Finished or Full, or until the budget is used.
+// Steps of a worker until Answer, Wait, Finished or Full, or until the budget is used. The slices come one by one, as the calls lend them.
 pub fn run(
     search: Search<'_>,
     nodes: &mut [u32],

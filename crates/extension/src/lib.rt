@@ -37,7 +37,7 @@ fn arrival(first: FirstGoal) -> Outcome
     }
 }
 
-// A child's four node words.
+// A child's four node words. The numbers are their fields, in the definition's order.
 #[tactic(auto, unfolding(model::specs::Steps::grown))]
 fn grow(
     nodes: &mut [u32],

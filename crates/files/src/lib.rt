@@ -7,7 +7,7 @@ ghost use Rattle.std.specs.Io.KnownBytes.{Consumes};
 
 use std::io::Read;
 
-// Reads until the bytes are full, the file ends or a read fails, and answers how many bytes it has put in front. A failed read counts as the file's end.
+// Reads until the bytes are full, the file ends or a read fails, and answers how many bytes it has put in front. A failed read counts as the file's end. No `for`: a read may bring any number of bytes.
 pub fn read_full<R: Read>(file: &mut R, bytes: &mut [u8]) -> usize
     ensures bound { result ≤ length bytes.new }
     ensures taken { Consumes (R.remaining file.old) (R.remaining file.new) (take result bytes.new) }

@@ -1,4 +1,5 @@
 // The check of an image and of a query: document 01, "Rule image". Each function takes the walk on from a position, or answers the fault that stops it.
+// The position and the count of variables seen stay two numbers, as the definitions have them.
 #![tactic(auto)]
 
 ghost use Rattle.std.specs.Prelude.{◌≡◌, ◌+◌, ◌≤◌, ◌<◌};

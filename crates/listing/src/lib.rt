@@ -1,5 +1,6 @@
 // The desk program's listing, line by line: document 01, "The desk program". `open` takes a file's bytes to a loaded memory, or to the line that refuses it;
 // `next_line` then runs worker 0 to its next stop and writes the line for it. Both work in what they are lent, so a listing of any length needs no more room.
+// The slices come one by one, as for the calls.
 #![tactic(auto)]
 
 ghost use Rattle.std.specs.Prelude.{◌≡◌, true, Some, List, ℕ, ◌+◌, ◌-◌, ◌≤◌, length, take, drop};

@@ -83,7 +83,7 @@ pub struct VarNo(pub u32);
 #[derive(Clone, Copy)]
 pub struct CellAddr(pub u32);
 
-// What dereferencing answers.
+// What dereferencing answers. Neither is a failure or an absence, so it is no Result and no Option.
 #[derive(Clone, Copy)]
 pub enum Found {
     Unbound(VarNo, CellAddr),

@@ -1,5 +1,5 @@
 // Load, moves and reading an answer, in words: document 01, "The steps", last paragraph, and "Refused calls" on load.
-// Nothing is judged here. A move and a read work in the worker's own part of the arrays.
+// Nothing is judged here. A move and a read work in the worker's own part of the arrays. The slices come one by one, as the calls lend them.
 #![tactic(auto)]
 
 ghost use Rattle.std.specs.Prelude.{◌≡◌, List, [], ◌∷◌, ◌++◌, ℕ, ◌+◌, ◌*◌, ◌≤◌, ◌<◌, length, get_or, set, take, drop, replicate};

@@ -1,4 +1,5 @@
 // Document 01's number for each refusal and each outcome, as the definitions of `model` give them.
+// They are matches and no discriminants: each is document 01's list, line by line, and a refusal may carry a fault.
 #![tactic(auto)]
 
 ghost use Rattle.std.specs.Prelude.{◌≡◌, ◌<◌};

@@ -19,7 +19,7 @@ use live::{live_advance, live_goal};
 use memory::View;
 use model::Outcome;
 
-// How far a run came: so many clauses passed over, each a step that says Tried, or one step.
+// How far a run came: so many clauses passed over, each a step that says Tried, or one step. Neither is a failure, so it is no Result.
 #[derive(Clone, Copy)]
 pub enum Progress {
     Passed(u32),
