@@ -39,14 +39,3 @@ pub fn read_words<R: Read>(file: &mut R, words: &mut [u32])
         *word = next_word(file);
     }
 }
-
-// The words of bytes that were read, as many as there is room for; the count of them. What is no whole word is left out.
-pub fn lay_words(bytes: &[u8], words: &mut [u32]) -> usize
-    ensures { (result ≤ length words.new) × (result ≤ length bytes.now / 4) }
-{
-    let (fours, _) = bytes.as_chunks::<4>();
-    for (word, four) in words.iter_mut().zip(fours) {
-        *word = u32::from_be_bytes(*four);
-    }
-    words.len().min(fours.len())
-}

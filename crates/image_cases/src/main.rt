@@ -183,6 +183,7 @@ fn main(rt: HostRuntime) -> io::Result<()> {
     let mut bytes = file_room();
     let n = files::read_full(&mut file, &mut bytes);
     let mut words = word_room();
-    let count = files::lay_words(&bytes[..n], &mut words);
+    let count = words.len().min(n / 4);
+    host::lay_words(&bytes[..n], count, &mut words);
     run_cases(&rt, &bytes[..n], &words[..count])
 }

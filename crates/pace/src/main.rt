@@ -219,6 +219,7 @@ fn main(rt: HostRuntime) -> io::Result<()> {
     let mut bytes = [0u8; 65536];
     let size = files::read_full(&mut file, &mut bytes);
     let mut words = [0u32; 16384];
-    let count = files::lay_words(&bytes[..size], &mut words);
+    let count = words.len().min(size / 4);
+    host::lay_words(&bytes[..size], count, &mut words);
     parted(&rt, &words[..count], times(&rt))
 }

@@ -5,7 +5,7 @@ use Rattle.model.specs.Image.{predicate_word}
 use Rattle.model.specs.Memory.{base, own_variables, frame, tried, first_of}
 use Rattle.model.specs.Goals.{clause_words}
 use Rattle.model.specs.Damage.{zeros}
-use Rattle.model.specs.Steps.{View, view, raised}
+use Rattle.model.specs.Steps.{raised}
 use Rattle.passing.specs.Clash.{fails_plainly}
 
 -- the node words and the count after clauses were passed over
@@ -40,7 +40,3 @@ skipped image query nodes cells trail array node child predicate place position 
     (pass_over (arity word) node image words array cells (frame nodes node) child_base place (min most (clause_count word - tried nodes node)) 0 nodes position)
     (passing nodes 0))
     (passing nodes 0)
-
--- the view with other node words
-abbrev pub with_nodes : View → List ℕ → View
-with_nodes v nodes = view nodes v.cells v.trail v.array v.workers

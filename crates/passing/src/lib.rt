@@ -6,12 +6,10 @@ ghost use Rattle.model.specs.Image.{predicate_word};
 ghost use Rattle.model.specs.Fields.{clause_count};
 ghost use Rattle.model.specs.Decoding.{clause_from};
 ghost use Rattle.model.specs.Memory.{tried};
-ghost use Rattle.memory.specs.Views.{words_of, SameSlices};
 ghost use Rattle.passing.specs.Clash.{compare, clashes, fails_plainly};
-ghost use Rattle.passing.specs.Passing.{passing, pass_over, blank, skipped, with_nodes};
+ghost use Rattle.passing.specs.Passing.{passing, pass_over, blank, skipped};
 
 use goals::{Call, Search};
-use memory::View;
 use model::Found;
 
 // What a head's argument and a goal's come to while nothing is bound: they differ, they agree or one takes the other, or it is not known.
@@ -120,30 +118,27 @@ fn blank(words: &[u32], start: usize, count: u32) -> bool
     start + count as usize <= words.len() && bindings::zeros(words, start, count)
 }
 
-// Passes over clauses of a live node's predicate from a position on, at most so many, if the next is sure to fail and the child's trail is still empty. Answers how many, and the place behind them.
+// Passes over clauses of a live node's predicate from a position on, at most so many, if the next is sure to fail and the child's trail is still empty. Answers how many, and the place behind them. Only the nodes are written, so no view is lent.
 #[tactic(auto, using(crate::proofs::FieldRules::field_bounds, crate::proofs::SkipLaws::idle), unfolding(crate::specs::Passing::skipped, model::specs::Decoding::clause_from))]
 pub fn skip(
     search: Search<'_>,
-    view: &mut View<'_>,
+    nodes: &mut [u32],
+    cells: &[u32],
+    trail: &[u32],
+    array: &[u32],
     call: Call,
     child: u32,
     position: u32,
     most: u32,
 ) -> Stretch
-    requires { (call.place < 1048576) × (position < 134217728) × (tried view.old.nodes.now call.node ≤ clause_count (predicate_word search.image.now call.predicate)) }
-    ensures did { (passing view.new.nodes.now result.count ≡ skipped search.entry.image.now search.entry.query.now view.old.nodes.now view.old.cells.now view.old.trail.now view.old.array.now call.node child call.predicate call.place position most) × (result.position ≡ clause_from search.entry.image.now position result.count) }
-    ensures kept { words_of view.new ≡ with_nodes (words_of view.old) view.new.nodes.now }
-    ensures lent { SameSlices view.old view.new }
+    requires { (call.place < 1048576) × (position < 134217728) × (tried nodes.old call.node ≤ clause_count (predicate_word search.image.now call.predicate)) }
+    ensures { (passing nodes.new result.count ≡ skipped search.entry.image.now search.entry.query.now nodes.old cells.now trail.now array.now call.node child call.predicate call.place position most) × (result.position ≡ clause_from search.entry.image.now position result.count) }
 {
     let none = Stretch { count: 0, position };
     if most == 0 {
         return none;
     }
     let node = call.node;
-    let nodes = &mut *view.nodes;
-    let array = &mut *view.array;
-    let cells = &mut *view.cells;
-    let trail = &mut *view.trail;
     let slot = memory::frame(nodes, node);
     let word = words::word_at(search.image, 1 + call.predicate as usize);
     let arity = words::arity(word);

@@ -69,10 +69,16 @@ pub fn take_next(
     let node = call.node;
     let predicate = call.predicate;
     let nodes = &mut *view.nodes;
+    let cells = &mut *view.cells;
+    let trail = &mut *view.trail;
+    let array = &mut *view.array;
     let tried = memory::tried(nodes, node);
     let clauses = &mut *hand.clauses;
     let position = recall::clause_place(image, clauses, node, predicate, tried);
-    let stretch = passing::skip(search, view, call, child, position, allowed(look, most));
+    let most = allowed(look, most);
+    let stretch = passing::skip(
+        search, nodes, cells, trail, array, call, child, position, most,
+    );
     let passed = stretch.count;
     if 0 < passed {
         let next = stretch.position;
