@@ -18,6 +18,8 @@ use std::{fs, io, str};
 struct Parts {
     size: usize,
     count: usize,
+    ghost query_within: { 1 + size ≤ count },
+    ghost file_small: { count ≤ 1297 },
 }
 
 // The words of the file, and the memory that the search works in.
@@ -59,7 +61,6 @@ impl Search {
     }
 
     fn next_line(&mut self, parts: Parts, steps: u32, line: &mut [u8]) -> Line
-        requires { (1 + parts.size ≤ parts.count) × (parts.count ≤ 1297) }
         ensures { line_size result ≤ 1024 }
     {
         let words: &[u32] = &self.words;
@@ -83,6 +84,7 @@ impl Search {
 struct Block {
     bytes: [u8; 65536],
     filled: usize,
+    ghost filled_within: { filled ≤ 65536 },
 }
 
 impl Block {
@@ -96,7 +98,6 @@ impl Block {
     }
 
     fn write(&mut self, rt: &impl Print) -> io::Result<()>
-        requires { self.old.filled ≤ 65536 }
         ensures { IfOk result (λ _. self.new.filled ≡ 0) }
     {
         rt.write_all(&self.bytes[..self.filled])?;
@@ -106,7 +107,6 @@ impl Block {
 
     // Writes the lines out where there is no room for one more.
     fn make_room(&mut self, rt: &impl Print) -> io::Result<()>
-        requires { self.old.filled ≤ 65536 }
         ensures { IfOk result (λ _. self.new.filled + 1024 ≤ 65536) }
     {
         if self.filled <= 65536 - 1024 {
@@ -151,7 +151,7 @@ fn print_line(
     steps: u32,
     block: &mut Block,
 ) -> io::Result<Option<u32>>
-    requires { (1 + parts.size ≤ parts.count) × (parts.count ≤ 1297) × (block.old.filled + 1024 ≤ 65536) }
+    requires { block.old.filled + 1024 ≤ 65536 }
     ensures { IfOk result (λ _. block.new.filled + 1024 ≤ 65536) }
 {
     let at = block.filled;
@@ -177,7 +177,7 @@ fn print_lines(
     parts: Parts,
     block: &mut Block,
 ) -> io::Result<()>
-    requires { (1 + parts.size ≤ parts.count) × (parts.count ≤ 1297) × (block.old.filled + 1024 ≤ 65536) }
+    requires { block.old.filled + 1024 ≤ 65536 }
 {
     let mut steps: u32 = 0;
     for _ in 0..65536 {

@@ -1,5 +1,5 @@
 // A stored call is made on what is lent for it, and its answer is held against what is stored.
-// The slices are passed one by one, as the calls take them: the borrow checker does not cover a struct of `&mut` slices that is handed on.
+// The slices are passed one by one, as the calls take them, which is as C lends them.
 use crate::answers::agrees;
 use crate::room::{fill, holds, written};
 use crate::stored::{Call, Kind};

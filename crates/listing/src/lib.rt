@@ -14,6 +14,9 @@ use desk_model::{Ending, Line, Opened, Stop};
 use goals::Search;
 use model::{Outcome, Refused};
 
+// The number of the refusal of a file, which no call gives: document 01, "The desk program".
+const UNFIT_FILE: u32 = 28;
+
 // Where worker 0 stopped, and the steps so far.
 #[derive(Clone, Copy)]
 struct StopReached {
@@ -190,7 +193,7 @@ pub fn open(
         return Opened::NoRoom;
     }
     match desk_file::lay_file(bytes, words) {
-        None => Opened::Refused(lines::refused_line(line, 28, 0).unwrap()),
+        None => Opened::Refused(lines::refused_line(line, UNFIT_FILE, 0).unwrap()),
         Some((size, count)) => begin_parts(
             words, size, count, nodes, cells, trail, arrays, workers, line,
         ),

@@ -40,12 +40,14 @@ struct Attempt<'s, 'v> {
     child_base: u32,
     place: usize,
     arity: u32,
+    ghost slot_small: { slot < 65536 },
+    ghost place_small: { place < 1048576 },
+    ghost arity_small: { arity < 65536 },
 }
 
 impl<'s, 'v> Attempt<'s, 'v> {
     #[tactic(auto, unfolding(crate::specs::Clash::compare, crate::specs::Clash::compared_with))]
     fn compare(self, head: u32, goal: u32) -> Compared
-        requires { self.slot < 65536 }
         ensures { result ≡ compare self.entry.child_base self.entry.array.now self.entry.cells.now self.entry.slot head goal }
     {
         if words::op(head) == words::VAR_OP {
@@ -62,7 +64,7 @@ impl<'s, 'v> Attempt<'s, 'v> {
     // Whether a head's arguments, from a place on, and the goal's differ in a constant.
     #[tactic(auto, using(crate::proofs::PassLaws::clashing))]
     fn clashes(self, head: usize) -> bool
-        requires { (self.slot < 65536) × (head < 1099511627776) × (self.place < 1048576) × (self.arity < 65536) }
+        requires { head < 1099511627776 }
         ensures { result ≡ clashes self.entry.arity self.entry.image.now self.entry.words.now self.entry.array.now self.entry.cells.now self.entry.slot self.entry.child_base head (self.entry.place + 1) }
     {
         let goal = self.place + 1;
@@ -81,7 +83,6 @@ impl<'s, 'v> Attempt<'s, 'v> {
     // Whether the clause at a position is sure to fail.
     #[tactic(auto, unfolding(crate::specs::Clash::fails_plainly))]
     fn fails_plainly(self, position: u32) -> bool
-        requires { (self.slot < 65536) × (self.place < 1048576) × (self.arity < 65536) }
         ensures { result ≡ fails_plainly self.entry.arity self.entry.image.now self.entry.words.now self.entry.array.now self.entry.cells.now self.entry.slot self.entry.child_base position self.entry.place }
     {
         let at = position as usize;
@@ -91,7 +92,7 @@ impl<'s, 'v> Attempt<'s, 'v> {
     // At most so many clauses from a position on, as long as each is sure to fail; for each the node's tried count rises. Answers how many, and the place behind them.
     #[tactic(auto, using(crate::proofs::PassLaws::passing_over))]
     fn pass_over(self, nodes: &mut [u32], node: u32, start: u32, most: u32) -> Stretch
-        requires { (self.slot < 65536) × (self.place < 1048576) × (self.arity < 65536) × (most < 1024) × (start < 134217728) }
+        requires { (most < 1024) × (start < 134217728) }
         ensures { (passing nodes.new result.count ≡ pass_over self.entry.arity node self.entry.image.now self.entry.words.now self.entry.array.now self.entry.cells.now self.entry.slot self.entry.child_base self.entry.place most 0 nodes.old start) × (result.position ≡ clause_from self.entry.image.now start result.count) }
     {
         let mut position = start;
