@@ -18,6 +18,7 @@ enum Kind {
     Long,
 }
 
+// No case is refused for its number: past 6 they stand for bytes again.
 impl From<u32> for Kind {
     fn from(word: u32) -> Kind {
         match word {

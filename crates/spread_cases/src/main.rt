@@ -15,6 +15,7 @@ enum Call {
     Unpack,
 }
 
+// No case is refused for its number: any but 1 is unpacked.
 impl From<u32> for Call {
     fn from(word: u32) -> Call {
         if word == 1 { Call::Pack } else { Call::Unpack }
