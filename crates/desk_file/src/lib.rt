@@ -17,7 +17,7 @@ fn file_parts(bytes: &[u8]) -> Option<(usize, usize)>
     if length % 4 != 0 {
         return None;
     }
-    let size = host::word_of_bytes(bytes, 0) as usize;
+    let size = byte_words::word_of_bytes(bytes, 0) as usize;
     if QUERY_LIMIT < size {
         return None;
     }
@@ -38,6 +38,6 @@ pub fn lay_file(bytes: &[u8], words: &mut [u32]) -> Option<(usize, usize)>
         return None;
     }
     let (size, count) = file_parts(bytes)?;
-    host::lay_words(bytes, count, words);
+    byte_words::lay_words(bytes, count, words);
     Some((size, count))
 }

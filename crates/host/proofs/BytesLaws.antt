@@ -1,15 +1,12 @@
 -- The words that a list of bytes spells, one more at a time and cut short; and that a verdict on so many words is near. Document 01, "Rule image".
 -- Assumes nothing.
-use mathlib.Core.Path.{◌≡◌, refl, sym, ap, ap₂, ◌∙◌}
+use mathlib.Core.Path.{◌≡◌, refl, sym, ap, ◌∙◌}
 use mathlib.Core.Bool.{Bool, true, false}
-use mathlib.Core.List.{List, [], ◌∷◌, ◌++◌}
-use Prim.Native.Nat.{ℕ, zero, suc, ◌+◌, ◌/◌, ◌%◌, ◌≤◌, ◌<◌, min}
+use mathlib.Core.List.{List, ◌∷◌}
+use Prim.Native.Nat.{ℕ, zero, suc, ◌/◌, ◌%◌, ◌≤◌, min}
 use native.Mathlib.Omega.{arith}
-use native.Mathlib.Numerals.{add-one}
-use native.Mathlib.Nat.{add-zero}
 use lib.Dec.{ltb}
-use lib.ListN.{length, take, set}
-use lib.Seq.{take-suc-set}
+use lib.ListN.{length, take}
 use borrow.Author.Tests.{eq-eqb, ne_eqb, ltb-true, ltb-false}
 use Rattle.model.specs.declared.Fault.TheVariants.{EndsEarly}
 use Rattle.model.specs.declared.Refusal.TheVariants.{Image}

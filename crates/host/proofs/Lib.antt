@@ -1,3 +1,2 @@
 pub mod AnswerLaws
 pub mod BytesLaws
-pub mod LaidWords

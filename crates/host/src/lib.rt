@@ -2,7 +2,6 @@
 #![tactic(auto)]
 
 mod answers;
-mod bytes;
 mod search;
 
 ghost use Rattle.std.specs.Prelude.{◌≡◌, ◌+◌, ◌*◌, ◌≤◌, ◌<◌, length};
@@ -13,7 +12,6 @@ ghost use Rattle.model.specs.Spread.{pack, unpack};
 ghost use Rattle.host.specs.Near.{Near};
 ghost use Rattle.host.specs.Answers.{answer_of_check, filled, of_writing};
 
-pub use bytes::{lay_words, word_of_bytes};
 use model::{Fault, Refusal, Refused, Verdict};
 pub use search::{cumbwael_load, cumbwael_move, cumbwael_read, cumbwael_run, cumbwael_step};
 
@@ -45,7 +43,7 @@ fn check_words(words: &mut [u32], bytes: &[u8], count: usize) -> u64
     requires { (count ≤ 131072) × (count ≤ length words.old) × (4 * count ≤ length bytes.now) }
     ensures { result ≡ verdict_number (check_image (words_from bytes.now count 0)) }
 {
-    lay_words(bytes, count, words);
+    byte_words::lay_words(bytes, count, words);
     verdict_number(image::check_image(&words[..count]))
 }
 

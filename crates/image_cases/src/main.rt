@@ -185,6 +185,6 @@ fn main(rt: HostRuntime) -> io::Result<()> {
     let n = files::read_full(&mut file, &mut bytes);
     let mut words = word_room();
     let count = words.len().min(n / 4);
-    host::lay_words(&bytes[..n], count, &mut words);
+    byte_words::lay_words(&bytes[..n], count, &mut words);
     run_cases(&rt, &bytes[..n], &words[..count])
 }

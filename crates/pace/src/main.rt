@@ -220,6 +220,6 @@ fn main(rt: HostRuntime) -> io::Result<()> {
     let size = files::read_full(&mut file, &mut bytes);
     let mut words = [0u32; 16384];
     let count = words.len().min(size / 4);
-    host::lay_words(&bytes[..size], count, &mut words);
+    byte_words::lay_words(&bytes[..size], count, &mut words);
     parted(&rt, &words[..count], times(&rt))
 }

@@ -1,5 +1,5 @@
 -- `host::check_words` meets its contract. Assumes nothing.
-use Rattle.std.proofs.Common.{arith, take, length, length-take}
+use Rattle.std.proofs.Common.{arith, length-take}
 use Rattle.host.proofs.BytesLaws.{check_image-near}
 use Rattle.host.proofs.check_words.Goals as goal
 

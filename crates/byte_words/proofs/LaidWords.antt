@@ -1,5 +1,5 @@
 -- The words that a list of bytes spells, laid out one by one at the front of a list of words. Document 01, "Rule image". Assumes nothing.
-use Rattle.std.proofs.Common.{◌≡◌, refl, sym, ap, ap₂, ◌∙◌, List, [], ◌∷◌, ◌++◌, ℕ, zero, suc, ◌+◌, ◌≤◌, ◌<◌, arith, add-zero, add-one, length, set, take, drop, take-append-drop, drop-set-lt, drop-drop}
+use Rattle.std.proofs.Common.{◌≡◌, refl, sym, ap, ap₂, ◌∙◌, List, [], ◌∷◌, ◌++◌, ℕ, zero, suc, ◌+◌, ◌<◌, arith, add-zero, add-one, length, set, take, drop, take-append-drop, drop-set-lt, drop-drop}
 use Rattle.std.proofs.Math.Seq.{take-suc-set}
 use Rattle.model.specs.Bytes.{word_of_bytes, words_from}
 
