@@ -20,6 +20,14 @@ use Rattle.spread.specs.GroupLaws.{not_through, judged-through, join-group}
 use Rattle.spread.specs.ListLaws.{spread-size}
 use Rattle.spread.specs.WordLaws.{packed_lt}
 
+-- storing what is left of a list
+module _ (room values : List ℕ) (at i : ℕ) where
+  pub store-turn : i < length values → sets (set room at (get_or values i 0)) (at + 1) (drop (i + 1) values) ≡ sets room at (drop i values)
+  store-turn h = rw (add-one, add-one, drop-cons values i 0 h) refl
+
+  pub store-end : length values ≤ i → sets room at (drop i values) ≡ room
+  store-end h = rw (drop_of_length-le values h) refl
+
 pub stored : (room values : List ℕ) → length values ≤ length room → sets room 0 values ≡ values ++ drop (length values) room
 stored room values h = sets-eq values room 0 (omega arith) ∙ ap (λ (n : ℕ). values ++ drop n room) (zero-add (length values))
 

@@ -21,6 +21,16 @@ pub fn size_of(kind: Kind) -> usize
     }
 }
 
+// The same by the tables. It is called for what is in no image, and so kept out of the loops: with it in them none would be unrolled.
+#[cold]
+#[inline(never)]
+fn by_table<R, F: FnOnce(Kind, usize) -> R>(kind: Kind, j: usize, of: F) -> R
+    requires { F.IsAlwaysCallable of }
+    ensures { F.post of kind (get_or (kept_fields kind) j 0) result }
+{
+    of(kind, words::kept_field(kind, j))
+}
+
 // What a function of kind and field says of the field at a place.
 #[tactic(auto, unfolding(model::specs::Fields::kept_fields))]
 fn of_kept<R, F: FnOnce(Kind, usize) -> R>(kind: Kind, j: usize, of: F) -> R
@@ -45,7 +55,7 @@ fn of_kept<R, F: FnOnce(Kind, usize) -> R>(kind: Kind, j: usize, of: F) -> R
         (Kind::Con, 1) => of(Kind::Con, 1),
         (Kind::Goal, 0) => of(Kind::Goal, 0),
         (Kind::Goal, 1) => of(Kind::Goal, 1),
-        _ => of(kind, words::kept_field(kind, j)),
+        _ => by_table(kind, j, of),
     }
 }
 

@@ -15,8 +15,9 @@ use kept::{placed_kept, size_of};
 use model::{Fault, Kind, Refusal, Refused, Written};
 use spreading::{spread_size, spread_words};
 
-// The word of a group in which nothing is wrong.
-fn join_group(list: &[u32], kind: Kind, at: usize) -> u32
+// The word of a group in which nothing is wrong, field by field.
+#[inline(always)]
+fn join_of(list: &[u32], kind: Kind, at: usize) -> u32
     requires { judged (widths_of kind) (kept_fields kind) at (drop at list.now) ≡ Ok (at + group_size kind) }
     ensures { result ≡ packed_word kind (drop at list.now) }
 {
@@ -25,6 +26,23 @@ fn join_group(list: &[u32], kind: Kind, at: usize) -> u32
         word += placed_kept(list[at + j], kind, j);
     }
     word
+}
+
+// The word of a group in which nothing is wrong. The kind is known at each call, so that the compiler leaves no loop over its fields.
+#[inline(always)]
+fn join_group(list: &[u32], kind: Kind, at: usize) -> u32
+    requires { judged (widths_of kind) (kept_fields kind) at (drop at list.now) ≡ Ok (at + group_size kind) }
+    ensures { result ≡ packed_word kind (drop at list.now) }
+{
+    match kind {
+        Kind::Header => join_of(list, Kind::Header, at),
+        Kind::Predicate => join_of(list, Kind::Predicate, at),
+        Kind::Clause => join_of(list, Kind::Clause, at),
+        Kind::Var => join_of(list, Kind::Var, at),
+        Kind::Con => join_of(list, Kind::Con, at),
+        Kind::Goal => join_of(list, Kind::Goal, at),
+        _ => join_of(list, kind, at),
+    }
 }
 
 // All words of a list in which nothing is wrong.
@@ -46,6 +64,16 @@ fn pack_words(list: &[u32], words: &mut [u32])
     }
 }
 
+// Word by word: the library's own copy would need `memmove` of the host that the archive for C is linked into.
+fn copy(words: &[u32], room: &mut [u32])
+    requires { length words.now ≤ length room.old }
+    ensures { room.new ≡ words.now ++ drop (length words.now) room.old }
+{
+    for i in 0..words.len() {
+        room[i] = words[i];
+    }
+}
+
 // 26 where the room is too small, and then nothing is written.
 #[tactic(auto, unfolding(model::specs::Spread::write_out))]
 fn write_out(words: &[u32], room: &mut [u32]) -> Written
@@ -54,7 +82,7 @@ fn write_out(words: &[u32], room: &mut [u32]) -> Written
     if room.len() < words.len() {
         return Err(Refused(Refusal::Room, 0));
     }
-    room[..words.len()].copy_from_slice(words);
+    copy(words, room);
     Ok(words.len())
 }
 

@@ -8,12 +8,30 @@ use crate::kept::{read_kept, size_of};
 use model::Kind;
 
 // The fields of a word, one to a place from `at` on.
-fn spread_word(word: u32, kind: Kind, at: usize, room: &mut [u32])
+#[inline(always)]
+fn spread_of(word: u32, kind: Kind, at: usize, room: &mut [u32])
     requires { at + group_size kind ≤ length room.old }
     ensures { room.new ≡ sets room.old at (spread_word kind word) }
 {
     for j in 0..size_of(kind) {
         room[at + j] = read_kept(word, kind, j);
+    }
+}
+
+// The fields of a word, one to a place from `at` on. The kind is known at each call, so that the compiler leaves no loop over them.
+#[inline(always)]
+fn spread_word(word: u32, kind: Kind, at: usize, room: &mut [u32])
+    requires { at + group_size kind ≤ length room.old }
+    ensures { room.new ≡ sets room.old at (spread_word kind word) }
+{
+    match kind {
+        Kind::Header => spread_of(word, Kind::Header, at, room),
+        Kind::Predicate => spread_of(word, Kind::Predicate, at, room),
+        Kind::Clause => spread_of(word, Kind::Clause, at, room),
+        Kind::Var => spread_of(word, Kind::Var, at, room),
+        Kind::Con => spread_of(word, Kind::Con, at, room),
+        Kind::Goal => spread_of(word, Kind::Goal, at, room),
+        _ => spread_of(word, kind, at, room),
     }
 }
 

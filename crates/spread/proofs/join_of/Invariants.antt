@@ -1,8 +1,8 @@
--- `spread::join_group` meets its contract. The loop's invariant: what is left to do gives the whole. Assumes nothing.
+-- `spread::join_of` meets its contract. The loop's invariant: what is left to do gives the whole. Assumes nothing.
 use Rattle.std.proofs.Common.{◌≡◌, ◌+◌, drop, Ok}
 use Rattle.model.specs.Spread.{packed_word, join_fields, group_size, judged}
 use Rattle.model.specs.Fields.{widths_of, kept_fields}
-use Rattle.spread.proofs.join_group.Given as goal
+use Rattle.spread.proofs.join_of.Given as goal
 
 abbrev pub invariant-loop-j : goal.invariant-loop-j
 invariant-loop-j l = record {

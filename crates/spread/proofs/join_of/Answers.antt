@@ -1,10 +1,10 @@
--- `spread::join_group` meets its contract. Assumes nothing.
+-- `spread::join_of` meets its contract. Assumes nothing.
 use Rattle.std.proofs.Common.{◌≡◌, ap, ◌∙◌, List, ℕ, ◌+◌, ◌*◌, ◌^◌, ◌<◌, ◌%◌, arith, zero-add, add-zero, mod-eq_of_lt, get_or, drop, Ok}
 use Rattle.model.specs.declared.Kind.{Kind}
 use Rattle.model.specs.Spread.{packed_word, join_fields, group_size, judged}
 use Rattle.model.specs.Fields.{widths_of, kept_fields, below}
 use Rattle.spread.proofs.LoopLaws.{OneValue, join-turn, join-end, one_value, joined-lt}
-use Rattle.spread.proofs.join_group.Goals as goal
+use Rattle.spread.proofs.join_of.Goals as goal
 
 module _ (kind : Kind) (list : List ℕ) (at place j : ℕ) where
   -- the value at the place, whose group is judged through

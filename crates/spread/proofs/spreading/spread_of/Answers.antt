@@ -1,10 +1,10 @@
--- `spread::spreading::spread_word` meets its contract. Assumes nothing.
+-- `spread::spreading::spread_of` meets its contract. Assumes nothing.
 use Rattle.std.proofs.Common.{◌≡◌, refl, sym, ap, ◌∙◌, ℕ, ◌+◌, arith, add-zero, drop, set, length-set}
 use Rattle.std.proofs.lemmas.List.Edits.{sets}
 use Rattle.model.specs.Spread.{spread_fields, spread_word, group_size}
 use Rattle.model.specs.Fields.{widths_of, kept_fields}
 use Rattle.spread.proofs.LoopLaws.{spread-turn, spread_end}
-use Rattle.spread.proofs.spreading.spread_word.Goals as goal
+use Rattle.spread.proofs.spreading.spread_of.Goals as goal
 
 pub loop-j-init : goal.loop-j-init
 unfolding spread_word
