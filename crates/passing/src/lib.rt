@@ -62,6 +62,8 @@ impl<'s, 'v> Attempt<'s, 'v> {
     }
 
     // Whether a head's arguments, from a place on, and the goal's differ in a constant.
+    // This and the next stand in the loop over clauses itself: a call for each clause would copy the attempt, which takes as long as the look.
+    #[inline(always)]
     #[tactic(auto, using(crate::proofs::PassLaws::clashing))]
     fn clashes(self, head: usize) -> bool
         requires { head < 1099511627776 }
@@ -81,6 +83,7 @@ impl<'s, 'v> Attempt<'s, 'v> {
     }
 
     // Whether the clause at a position is sure to fail.
+    #[inline(always)]
     #[tactic(auto, unfolding(crate::specs::Clash::fails_plainly))]
     fn fails_plainly(self, position: u32) -> bool
         ensures { result ≡ fails_plainly self.entry.arity self.entry.image.now self.entry.words.now self.entry.array.now self.entry.cells.now self.entry.slot self.entry.child_base position self.entry.place }
