@@ -1,5 +1,5 @@
 -- One turn of each walk over goals and clauses, and of the climb; and how far a walk can come. Assumes nothing.
-use Rattle.std.proofs.Common.{◌≡◌, refl, Bool, true, false, List, Some, None, ℕ, zero, suc, ◌+◌, ◌-◌, ◌*◌, ◌≤◌, ◌<◌, arith, add-one, eqb, get_or, eq-eqb, ne_eqb}
+use Rattle.std.proofs.Common.{◌≡◌, refl, Bool, true, false, cond, List, Some, None, ℕ, zero, suc, ◌+◌, ◌-◌, ◌*◌, ◌≤◌, ◌<◌, arith, add-one, eqb, ltb, get_or, eq-eqb, ne_eqb}
 use borrow.Author.Tests.{lt-ltb, le-ltb}
 use Rattle.model.specs.Fields.{op, clause_length, first_clause, goal_predicate}
 use Rattle.model.specs.Memory.{parent, clause_position, frame, goal_index}
@@ -8,7 +8,7 @@ use Rattle.model.specs.Decoding.{goal_next, goal_from, clause_next, clause_from,
 use Rattle.model.specs.Goals.{FirstGoal, clause_words, past_head, goal_place, goals_of, next_goal}
 use Rattle.model.specs.Steps.{goal_of}
 use Rattle.words.proofs.Ranges.{left-after, none-left}
-use Rattle.memory.proofs.FieldBounds.{arity-lt, first_clause-lt, clause_length-lt, clause_position-lt, goal_index-lt}
+use Rattle.memory.proofs.FieldBounds.{arity-lt, first_clause-lt, clause_length-lt, clause_position-lt, frame-lt, goal_index-lt}
 
 pub past_head-end : (words : List ℕ) (at end : ℕ) → end ≤ at → at ≡ past_head (end - at) words at
 unfolding past_head
@@ -110,3 +110,33 @@ pub clause_from-next : (image : List ℕ) (clauses at : ℕ) → clause_from ima
 unfolding clause_from clause_next
 clause_from-next image zero at = refl
 clause_from-next image (suc clauses) at = rw add-one (simp add-one at (clause_from-next image clauses (at + clause_length (get_or image at 0))))
+
+-- a goal found by the climb has a slot and an index in their bounds
+pub data Small : FirstGoal → Type 0 where
+  none : Small None
+  some : {slot index : ℕ} → slot < 4294967296 → index < 32 → Small (Some (slot, index))
+
+pub next_goal-small : (depth : ℕ) (image query nodes : List ℕ) (slot index : ℕ) → slot < 4294967296 → index < 16 → Small (next_goal depth image query nodes slot index)
+unfolding next_goal
+next_goal-small zero image query nodes slot index s i = go (ltb (index + 1) (goals_of image query nodes slot))
+  where
+    j : index + 1 < 32
+    j = omega arith
+
+    go : (t : Bool) → Small (cond {A = FirstGoal} t (Some (slot, index + 1)) None)
+    go true = some s j
+    go false = none
+next_goal-small (suc depth) image query nodes slot index s i =
+    go (ltb (index + 1) (goals_of image query nodes slot)) (eqb slot 0) (next_goal-small depth image query nodes (frame nodes above) (goal_index nodes above) (omega (arith, frame-lt nodes above)) (goal_index-lt nodes above))
+  where
+    j : index + 1 < 32
+    j = omega arith
+
+    above : ℕ
+    above = parent nodes slot
+
+    go : (t u : Bool) → Small (next_goal depth image query nodes (frame nodes above) (goal_index nodes above))
+        → Small (elim t [ true ↦ Some (slot, index + 1) | false ↦ elim u [ true ↦ None | false ↦ next_goal depth image query nodes (frame nodes above) (goal_index nodes above) ] ])
+    go true u h = some s j
+    go false true h = none
+    go false false h = h

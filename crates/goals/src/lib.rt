@@ -110,23 +110,38 @@ impl<'a> Search<'a> {
         words::goal_count(words::word_at(self.clause_words(nodes, slot), at))
     }
 
-    // The goal behind the one at an index of a slot's clause. It climbs from frame to parent frame until a goal remains, depth falling at each call.
+    // Into `found`, the goal behind the one at an index of a slot's clause. It climbs from frame to parent frame until a goal remains, depth falling at each call.
+    // The search is lent, and the answer's place: so the compiler makes a loop of it, and depth costs no stack. Passed and answered by value, both would be copied at each call.
+    fn climb(&self, nodes: &[u32], depth: u32, slot: u32, index: u32, found: &mut FirstGoal)
+        requires { index < 16 }
+        ensures { found.new ≡ next_goal depth self.now.image.now self.now.query.now nodes.now slot index }
+    {
+        if index + 1 < self.goals_of(nodes, slot) {
+            *found = Some((slot, index + 1));
+            return;
+        }
+        if depth == 0 {
+            *found = None;
+            return;
+        }
+        if slot == ROOT {
+            *found = None;
+            return;
+        }
+        let above = memory::parent(nodes, slot);
+        let frame = memory::frame(nodes, above);
+        let goal = memory::goal_index(nodes, above);
+        self.climb(nodes, depth - 1, frame, goal, found)
+    }
+
+    // The goal behind the one at an index of a slot's clause.
     fn next_goal(self, nodes: &[u32], depth: u32, slot: u32, index: u32) -> FirstGoal
         requires { index < 16 }
         ensures { result ≡ next_goal depth self.entry.image.now self.entry.query.now nodes.now slot index }
     {
-        if index + 1 < self.goals_of(nodes, slot) {
-            return Some((slot, index + 1));
-        }
-        if depth == 0 {
-            return None;
-        }
-        if slot == ROOT {
-            return None;
-        }
-        let above = memory::parent(nodes, slot);
-        let frame = memory::frame(nodes, above);
-        self.next_goal(nodes, depth - 1, frame, memory::goal_index(nodes, above))
+        let mut found = None;
+        self.climb(nodes, depth, slot, index, &mut found);
+        found
     }
 
     // The first goal of a child with so many goals of its own, of a node whose first goal stands at an index of a slot's clause.
