@@ -1,8 +1,8 @@
 -- Words stored in a row, a list that is cleared whole, and a fresh memory. Assumes nothing.
-use Rattle.std.proofs.Common.{◌≡◌, refl, ap, ap₂, ◌∙◌, List, [], ◌∷◌, ◌++◌, ℕ, suc, ◌+◌, ◌≤◌, arith, length, get_or, set, drop, replicate}
+use Rattle.std.proofs.Common.{◌≡◌, refl, ap, ap₂, ◌∙◌, List, [], ◌∷◌, ◌++◌, ℕ, zero, suc, ◌+◌, ◌≤◌, arith, length, get_or, set, drop, replicate}
 use Rattle.model.specs.declared.Kind.TheVariants.{Node0, Node2}
 use Rattle.model.specs.Fields.{variables}
-use Rattle.model.specs.Memory.{Memory, memory, word_of}
+use Rattle.model.specs.Memory.{Memory, memory, word_of, cleared}
 use Rattle.model.specs.Steps.{laid}
 use Rattle.model.specs.Moves.{loaded}
 
@@ -52,3 +52,9 @@ loaded-of query nodes cells trail arrays workers own first second nodes' nodes''
     rooted m n =
         memory (set (set m.nodes 0 (word_of Node0 (1 ∷ 0 ∷ 0 ∷ 0 ∷ n ∷ 0 ∷ []))) 2 (word_of Node2 (1 ∷ 0 ∷ 0 ∷ 0 ∷ 0 ∷ [])))
         (laid n 0 0 m.cells) m.trail m.arrays m.workers
+
+-- clearing stores so many zeros
+pub cleared-written : (count at : ℕ) (words : List ℕ) → cleared count at words ≡ written at (replicate count 0) words
+unfolding cleared written
+cleared-written zero at words = refl
+cleared-written (suc count) at words = cleared-written count (at + 1) (set words at 0)

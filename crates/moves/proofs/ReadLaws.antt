@@ -1,5 +1,5 @@
 -- The search for a number, one word of an answer, and an answer's words in the room. Assumes nothing.
-use Rattle.std.proofs.Common.{◌≢◌, Option, unwrap_or, ◌≡◌, refl, sym, ap, ap₂, ◌∙◌, List, [], ◌∷◌, ◌++◌, ℕ, zero, suc, ◌+◌, ◌-◌, ◌*◌, ◌≤◌, ◌<◌, add-one, arith, length, get_or, set, take, drop, take-suc-set, eq-eqb, ne_eqb}
+use Rattle.std.proofs.Common.{◌≢◌, Option, unwrap_or, ◌≡◌, refl, sym, ap, ap₂, ◌∙◌, Bool, true, false, eqb, List, [], ◌∷◌, ◌++◌, ℕ, zero, suc, ◌+◌, ◌-◌, ◌*◌, ◌≤◌, ◌<◌, add-one, arith, length, get_or, set, take, drop, take-suc-set, eq-eqb, ne_eqb}
 use Rattle.std.proofs.lemmas.Iterator.{index_from_first}
 use Rattle.std.specs.Option.{MatchOption}
 use Rattle.std.specs.List.{AllWithin, HoldsAt}
@@ -83,3 +83,13 @@ answer-of query nodes cells trail arrays workers worker k own room after ek eo e
       e ∙ ap₂ (λ (n m : ℕ). answer_from n (take m (drop (2048 * worker) arrays)) cells 0 [] ++ drop own room) eo ek,
       eo ∙ sym (answer-length part cells (variables (get_or query 0 0)) 0 []),
     )
+
+-- a number's place is at most how many are seen
+pub place-le : (seen : List ℕ) (number : ℕ) → place_of seen number ≤ length seen
+unfolding place_of
+place-le [] number = omega arith
+place-le (first ∷ seen) number = go (eqb first number) refl (place-le seen number)
+  where
+    go : (t : Bool) → eqb first number ≡ t → place_of seen number ≤ length seen → place_of (first ∷ seen) number ≤ suc (length seen)
+    go true q h = rw (q, place_of) (omega arith)
+    go false q h = rw (q, place_of) (omega arith)
