@@ -1,4 +1,4 @@
--- The words of a file laid out one by one, and what a file's parts tell. Document 01, "The desk program". Assumes nothing.
+-- The tests of a file in their order, and what a file's parts tell. Document 01, "The desk program". Assumes nothing.
 use Rattle.std.proofs.Common.{◌≡◌, refl, ap, ◌∙◌, Bool, true, false, cond, List, ◌++◌, ℕ, ◌+◌, ◌-◌, ◌/◌, ◌%◌, ◌≤◌, ◌<◌, arith, eqb, leb, length, drop, eq-eqb, ne_eqb, le-leb, leb-true, None}
 use borrow.Author.Tests.{lt-leb}
 use Rattle.model.specs.Bytes.{word_of_bytes, words_from, words_of_bytes}

@@ -1,4 +1,4 @@
--- The words that a list of bytes spells, one more at a time and cut short; and that a verdict on so many words is near. Document 01, "Rule image".
+-- The words that a list of bytes spells, cut short; and that a verdict on so many words is near. Document 01, "Rule image".
 -- Assumes nothing.
 use mathlib.Core.Path.{◌≡◌, refl, sym, ap, ◌∙◌}
 use mathlib.Core.Bool.{Bool, true, false}

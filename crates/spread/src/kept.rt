@@ -21,7 +21,7 @@ pub fn size_of(kind: Kind) -> usize
     }
 }
 
-// The same by the tables. It is called for what is in no image, and so kept out of the loops: with it in them none would be unrolled.
+// What a function of kind and field says of the field at a place, by the tables. It is called for what is in no image, and so kept out of the loops: with it in them none would be unrolled.
 #[cold]
 #[inline(never)]
 fn by_table<R, F: FnOnce(Kind, usize) -> R>(kind: Kind, j: usize, of: F) -> R
@@ -31,7 +31,7 @@ fn by_table<R, F: FnOnce(Kind, usize) -> R>(kind: Kind, j: usize, of: F) -> R
     of(kind, words::kept_field(kind, j))
 }
 
-// What a function of kind and field says of the field at a place.
+// The same with kind and field known at each call, so that no table is read.
 #[tactic(auto, unfolding(model::specs::Fields::kept_fields))]
 fn of_kept<R, F: FnOnce(Kind, usize) -> R>(kind: Kind, j: usize, of: F) -> R
     requires { F.IsAlwaysCallable of }
