@@ -1,1 +1,1 @@
-mod LaidWords
+pub mod LaidWords
